@@ -1,0 +1,4 @@
+pub mod Changes
+pub mod Faults
+pub mod Meaning
+pub mod Slots

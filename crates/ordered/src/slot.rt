@@ -1,0 +1,7 @@
+// A place for one pair. The key and the value of a blank slot are free.
+#[derive(Clone, Copy)]
+pub struct Slot<K, R> {
+    pub filled: bool,
+    pub key: K,
+    pub value: R,
+}
