@@ -1,4 +1,4 @@
--- What a change of an ordered index does: the refusal that is due, and the row that follows.
+-- Which refusal of a change is due, and what a refusal leaves.
 use mathlib.Core.Path.{_≡_}
 use mathlib.Core.List.{List}
 use mathlib.Core.Bool.{Bool, cond}
@@ -10,8 +10,7 @@ use Rattle.std.specs.declared.option.Option.the-variants.{Some, None}
 use Rattle.std.specs.declared.result.Result.{Result}
 use Rattle.std.specs.declared.result.Result.the-variants.{Ok, Err}
 use Rattle.ordered.specs.declared.fault.Fault.{Fault}
-use Rattle.ordered.specs.Faults.{Outcome}
-use Rattle.ordered.specs.Meaning.{holds, inserted, updated, removed}
+use Rattle.ordered.specs.Meaning.{holds}
 
 -- put: 33 if the key is there, else 32 if the pairs are as many as the capacity
 abbrev pub putRefusal : {K R : Type 0} → (K → K → Bool) → ℕ → List (K × R) → K → Option ℕ
@@ -22,22 +21,9 @@ abbrev pub absentRefusal : {K R : Type 0} → (K → K → Bool) → List (K × 
 absentRefusal b row k = cond (holds b row k) None (Some 34)
 
 -- the new value of an accepted change, the old one of a refused change
-abbrev pub settled : {X A : Type 0} → Result X Fault → A → A → A
+abbrev pub settled : {X Y : Type 0} → Result X Fault → Y → Y → Y
 settled (Ok x) new old = new
 settled (Err f) new old = old
-
-pub record Changed {K R X : Type 0} (due : Option ℕ) (new old : List (K × R)) (r : Result X Fault) (after : List (K × R)) : Type 0 where
-  pub outcome : Outcome due r
-  pub row : after ≡ settled r new old
-
-abbrev pub Put : {K R X : Type 0} → (K → K → Bool) → ℕ → List (K × R) → K → R → Result X Fault → List (K × R) → Type 0
-Put b cap row k v r after = Changed (putRefusal b cap row k) (inserted b row k v) row r after
-
-abbrev pub Set : {K R X : Type 0} → (K → K → Bool) → List (K × R) → K → R → Result X Fault → List (K × R) → Type 0
-Set b row k v r after = Changed (absentRefusal b row k) (updated b row k v) row r after
-
-abbrev pub Take : {K R X : Type 0} → (K → K → Bool) → List (K × R) → K → Result X Fault → List (K × R) → Type 0
-Take b row k r after = Changed (absentRefusal b row k) (removed b row k) row r after
 
 -- a refusal leaves the whole value as it was
 abbrev pub Unmoved : {X S : Type 0} → Result X Fault → S → S → Type 0

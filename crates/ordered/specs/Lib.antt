@@ -1,4 +1,5 @@
 pub mod Changes
 pub mod Faults
 pub mod Meaning
+pub mod Promises
 pub mod Slots

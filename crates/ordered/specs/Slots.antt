@@ -2,8 +2,12 @@
 use mathlib.Core.Path.{_≡_}
 use mathlib.Core.List.{List, [], _∷_}
 use mathlib.Core.Bool.{Bool, true, false}
-use Prim.Native.Nat.{ℕ}
+use Prim.Native.Nat.{ℕ, min}
 use Rattle.ordered.specs.declared.slot.Slot.{Slot}
+
+-- Of the slots of a row no more than 1,048,575 count.
+abbrev pub countable : ℕ → ℕ
+countable n = min n 1048575
 
 abbrev pub keep : {X : Type 0} → Bool → X → List X → List X
 keep true x xs = x ∷ xs

@@ -8,4 +8,5 @@ mod slot;
 pub use fault::Fault;
 pub use index::OrderedIndex;
 pub use key::Key;
+pub use slot::MOST_SLOTS;
 pub use slot::Slot;

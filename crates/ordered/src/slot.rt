@@ -5,3 +5,6 @@ pub struct Slot<K, R> {
     pub key: K,
     pub value: R,
 }
+
+// No more slots of a row count than these; later ones are never read or written.
+pub const MOST_SLOTS: usize = 1_048_575;
