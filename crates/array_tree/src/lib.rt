@@ -1,0 +1,9 @@
+// The array tree: a complete tree of nodes in a lent row of slots.
+
+mod blanking;
+mod feeding;
+mod filling_tree;
+#[cfg(test)]
+mod tests;
+
+pub use filling_tree::FillingTree;
