@@ -1,12 +1,23 @@
 ghost use mathlib.Core.Path.{_≡_};
 ghost use mathlib.Core.Bool.{Bool, true, false};
 ghost use Prim.Native.Nat.{ℕ, _≤_};
+ghost use Rattle.std.specs.Orderings.{Decides};
+ghost use Rattle.logs.specs.Limits.{TagOk};
 ghost use Rattle.logs.specs.Orders.{tagBefore, sizeBefore};
+use crate::Limits;
 use crate::Species;
 use ordered::Key;
 
 #[derive(Clone, Copy)]
 pub struct Tag(pub u32);
+
+impl Tag {
+    pub fn fits(self) -> bool
+        ensures { λ r. ⌜ Decides r (TagOk (self .0)) ⌝ }
+    {
+        Limits::TAG.allow(self.0)
+    }
+}
 
 pub impl Key for Tag as TagKey {
     const WIDTH: usize = 15;

@@ -2,6 +2,7 @@
 
 mod call;
 mod keys;
+mod limits;
 mod log;
 mod species;
 
@@ -10,6 +11,7 @@ pub use keys::Size;
 pub use keys::SizeKey;
 pub use keys::Tag;
 pub use keys::TagKey;
+pub use limits::Limits;
 pub use log::Body;
 pub use log::Log;
 pub use log::Place;

@@ -1,3 +1,6 @@
+ghost use Rattle.std.specs.Orderings.{Decides};
+ghost use Rattle.logs.specs.Limits.{BodyOk};
+use crate::Limits;
 use crate::Species;
 
 #[derive(Clone, Copy)]
@@ -13,6 +16,17 @@ pub struct Body {
     pub diameter: u16,
     pub length: u16,
     pub bay: u8,
+}
+
+impl Body {
+    // Whether each number is within its limits.
+    pub fn fits(self) -> bool
+        ensures { λ r. ⌜ Decides r (BodyOk self) ⌝ }
+    {
+        Limits::DIAMETER.allow(self.diameter as u32)
+            && Limits::LENGTH.allow(self.length as u32)
+            && Limits::BAY.allow(self.bay as u32)
+    }
 }
 
 // All of a log but its tag.
