@@ -1,0 +1,4 @@
+pub mod Asked
+pub mod Figures
+pub mod Marks
+pub mod Pieces

@@ -1,0 +1,150 @@
+ghost use mathlib.Core.Path.{_≡_};
+ghost use Prim.Native.Nat.{ℕ, _+_, _<_, _≤_};
+ghost use Rattle.line_reader.specs.Fields.{fields};
+ghost use Rattle.line_reader.specs.Reads.{reads, asks, arity, tagged};
+use crate::Reason;
+use crate::Refused;
+use crate::Request;
+use crate::Word;
+use crate::draft::Draft;
+use crate::draft::check;
+use crate::fields::Fields;
+use logs::Call;
+use logs::Limits;
+use logs::Log;
+use logs::Rest;
+
+// The most bytes of a line.
+const LONGEST: usize = 200;
+
+fn read_tag(line: &Fields) -> Result<u32, Refused>
+    ensures { λ r. ⌜ r ≡ tagged (fields (now (now (line .entry) .line))) ⌝ }
+{
+    check(Limits::TAG, line.number(1)?, 1)
+}
+
+fn read_log(line: &Fields) -> Result<Request, Refused>
+    ensures { λ r. ⌜ r ≡ asks Word.Log (fields (now (now (line .entry) .line))) ⌝ }
+{
+    let draft = Draft::read(line)?;
+    let place = line.place(6)?;
+    let (tag, body) = draft.fit()?;
+    Ok(Request::Log(Log {
+        tag,
+        rest: Rest { body, place },
+    }))
+}
+
+fn read_arrive(line: &Fields) -> Result<Request, Refused>
+    ensures { λ r. ⌜ r ≡ asks Word.Arrive (fields (now (now (line .entry) .line))) ⌝ }
+{
+    let (tag, body) = Draft::read(line)?.fit()?;
+    Ok(Request::Call(Call::Arrive(tag, body)))
+}
+
+fn read_call(line: &Fields) -> Result<Request, Refused>
+    ensures { λ r. ⌜ r ≡ asks Word.Call (fields (now (now (line .entry) .line))) ⌝ }
+{
+    let species = line.letter(1)?;
+    let d = line.number(2)?;
+    let l = line.number(3)?;
+    let diameter = check(Limits::DIAMETER, d, 2)? as u16;
+    let length = check(Limits::LENGTH, l, 3)? as u16;
+    Ok(Request::Call(Call::Call(species, diameter, length)))
+}
+
+fn read_list(line: &Fields) -> Result<Request, Refused>
+    ensures { λ r. ⌜ r ≡ asks Word.List (fields (now (now (line .entry) .line))) ⌝ }
+{
+    let species = line.letter(1)?;
+    let d = line.number(2)?;
+    let e = line.number(3)?;
+    let low = check(Limits::DIAMETER, d, 2)? as u16;
+    let high = check(Limits::DIAMETER, e, 3)? as u16;
+    if low <= high {
+        Ok(Request::Call(Call::List(species, low, high)))
+    } else {
+        Err(Refused::at(Reason::Reversed, 3))
+    }
+}
+
+// How many fields follow the word.
+fn fields_after(word: Word) -> usize
+    ensures { λ r. ⌜ r ≡ arity word ⌝ }
+{
+    match word {
+        Word::Log => 6,
+        Word::Open => 0,
+        Word::Arrive => 5,
+        Word::Withdraw | Word::Saw | Word::Back | Word::Find => 1,
+        Word::Call | Word::List => 3,
+    }
+}
+
+fn read_fields(word: Word, line: &Fields) -> Result<Request, Refused>
+    ensures { λ r. ⌜ r ≡ asks word (fields (now (now (line .entry) .line))) ⌝ }
+{
+    match word {
+        Word::Log => read_log(line),
+        Word::Open => Ok(Request::Open),
+        Word::Arrive => read_arrive(line),
+        Word::Withdraw => Ok(Request::Call(Call::Withdraw(read_tag(line)?))),
+        Word::Call => read_call(line),
+        Word::Saw => Ok(Request::Call(Call::Saw(read_tag(line)?))),
+        Word::Back => Ok(Request::Call(Call::Back(read_tag(line)?))),
+        Word::Find => Ok(Request::Call(Call::Find(read_tag(line)?))),
+        Word::List => read_list(line),
+    }
+}
+
+// What the line asks for, or the first reason why it is refused. The line comes without its end byte.
+pub fn read_request(line: &[u8]) -> Result<Request, Refused>
+    ensures { λ r. ⌜ r ≡ reads (now (line .entry)) ⌝ }
+{
+    if line.len() > LONGEST {
+        return Err(Refused::at(Reason::LongLine, 0));
+    }
+    let fields = Fields::split(line);
+    let Some(word) = fields.word() else {
+        return Err(Refused::at(Reason::UnknownWord, 0));
+    };
+    if fields.count() != 1 + fields_after(word) {
+        return Err(Refused::at(Reason::FieldCount, 0));
+    }
+    read_fields(word, &fields)
+}
+
+#[cfg(test)]
+mod tests {
+    use super::read_request;
+    use std::test::*;
+
+    // The number and the position of the refusal, or 0 twice.
+    fn refusal(line: &[u8]) -> (u8, u8) {
+        match read_request(line) {
+            Ok(_) => (0, 0),
+            Err(refused) => (refused.number(), refused.position()),
+        }
+    }
+
+    #[test]
+    fn limits_are_within() -> Result<(), Fail> {
+        check_eq(refusal(b"LOG\t1\tS\t80\t100\t1\tYARD"), (0, 0))?;
+        check_eq(refusal(b"LOG\t4294967295\tD\t1200\t1500\t200\tSAW"), (0, 0))?;
+        check_eq(refusal(b"LOG\t7\tP\t79\t100\t1\tYARD"), (14, 3))?;
+        check_eq(refusal(b"ARRIVE\t7\tP\t1201\t100\t1"), (14, 3))
+    }
+
+    #[test]
+    fn lines_end_at_200_bytes() -> Result<(), Fail> {
+        check_eq(refusal(&[b'A'; 200]), (11, 0))?;
+        check_eq(refusal(&[b'A'; 201]), (10, 0))
+    }
+
+    #[test]
+    fn odd_bytes() -> Result<(), Fail> {
+        check_eq(refusal(b""), (11, 0))?;
+        check_eq(refusal(b"FIND\t\xff"), (13, 1))?;
+        check_eq(refusal(b"FIND\t07"), (13, 1))
+    }
+}
