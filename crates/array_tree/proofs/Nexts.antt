@@ -19,17 +19,18 @@ use Rattle.ordered.specs.declared.fault.Fault.{Fault}
 use Rattle.ordered.specs.declared.fault.Fault.the-variants.{NotAfter, Full}
 use Rattle.ordered.specs.declared.slot.Slot.{Slot}
 use Rattle.ordered.specs.Faults.{Outcome}
-use Rattle.ordered.specs.Slots.{pairs, Blank, Holds}
+use Rattle.ordered.specs.Slots.{countable, pairs, Blank, Holds}
 use Rattle.ordered.specs.Meaning.{Ascending}
 use Rattle.tree_layout.specs.declared.layout.Layout.{Layout}
-use Rattle.tree_layout.specs.Levels.{leafSlots, treeSlots, area, countable}
+use Rattle.tree_layout.specs.Levels.{leafSlots, treeSlots, area}
 use Rattle.tree_layout.specs.Rows.{LayoutOf}
 use Rattle.tree_layout.proofs.Levels.{tree-parts}
 use Rattle.array_tree.specs.Filling.{Filling, Blanked, fedRow, slotCount, capacityOf, placeOf, follows, feedRefusal, filledWith}
 use Rattle.array_tree.specs.declared.filling_tree.FillingTree.{FillingTree}
 use Rattle.array_tree.specs.Trees.{Fills, rowOf, Fed}
-use Rattle.array_tree.proofs.Blanks.{blank-front, blank-back, blank-pairs}
-use Rattle.array_tree.proofs.Packed.{holds-pairs, holds-short, holds-last, holds-push, ascending-push}
+use Rattle.slot_rows.proofs.Held.{pairs-held, length-held, pairs-blank}
+use Rattle.array_tree.proofs.Blanks.{blank-front, blank-back}
+use Rattle.array_tree.proofs.Packed.{holds-last, holds-push, ascending-push}
 
 -- the slots of a layout: those above the leaves, then theirs
 pub layout-slots : (p : Layout) → treeSlots (p .width) (p .height) ≡ p .base + leafSlots (p .width) (p .height)
@@ -51,7 +52,7 @@ module _ {K R : Type 0} {b : K → K → Bool} {m n : ℕ} {xs : List (Slot K R)
   area-long = ap length (area-is p xs) ∙ simp (length-take, length-drop) (omega (arith, filling-fits, layout-slots p))
 
   pub filling-room : n ≤ leafSlots (p .width) (p .height)
-  filling-room = omega (arith, f .counted, holds-short (fedRow (Some p) xs) (area (p .width) (p .height) xs) (f .packed), area-long)
+  filling-room = omega (arith, f .counted, length-held (fedRow (Some p) xs) (area (p .width) (p .height) xs) (f .packed), area-long)
 
   pub follows-none : (k : K) → n ≡ 0 → follows b (fedRow (Some p) xs) k ≡ true
   follows-none k e = ap (λ (row : List (K × R)). follows b row k) (nil-from-length (fedRow (Some p) xs) (sym (f .counted) ∙ e))
@@ -108,7 +109,7 @@ module _ {K R : Type 0} (b : K → K → Bool) (transitive : (x y z : K) → b x
       held = holds-push k v (fedRow (Some p) xs) (area (p .width) (p .height) xs) n (f .packed) (f .counted) (omega (arith, free, area-long f))
 
       row : fedRow (Some p) (set xs (p .base + n) (filledWith k v)) ≡ fedRow (Some p) xs ++ ((k, v) ∷ [])
-      row = ap pairs slots ∙ holds-pairs (fedRow (Some p) xs ++ ((k, v) ∷ [])) _ held
+      row = ap pairs slots ∙ pairs-held (fedRow (Some p) xs ++ ((k, v) ∷ [])) _ held
 
 pub layout-fits : (m n : ℕ) (layout : Option Layout) → LayoutOf m (countable n) layout → slotCount layout ≤ n
 layout-fits m n None l = omega arith
@@ -145,7 +146,7 @@ made-empty b m xs ys (Some p) l e = (
     leaf = subst Blank (sym (area-is p ys)) (blank-back (p .base) (leafSlots (p .width) (p .height)) ys blank)
 
     row : fedRow (Some p) ys ≡ []
-    row = blank-pairs _ leaf
+    row = pairs-blank _ leaf
 
 -- what `feed` does, from what it does to the slots
 module _ {K R : Type 0} (b : K → K → Bool) (m : ℕ) (k : K) (v : R) (old : FillingTree K R) (p : Layout) (e : old .layout ≡ Some p) (ys : List (Slot K R)) where

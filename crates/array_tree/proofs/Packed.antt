@@ -7,22 +7,10 @@ use native.Mathlib.Omega.{arith}
 use lib.ListN.{length, getD, set}
 use Rattle.ordered.specs.declared.slot.Slot.{Slot}
 use Rattle.ordered.specs.Meaning.{After, Ascending}
-use Rattle.ordered.specs.Slots.{keep, pairs, Holds}
+use Rattle.ordered.specs.Slots.{Holds}
 use Rattle.array_tree.specs.Filling.{follows, filledWith}
-use Rattle.array_tree.proofs.Blanks.{blank-pairs}
 
 module _ {K R : Type 0} where
-  pub holds-pairs : (row : List (K × R)) (ss : List (Slot K R)) → Holds row ss → pairs ss ≡ row
-  holds-pairs [] ss h = blank-pairs ss h
-  holds-pairs (p ∷ row) [] h = absurd h
-  holds-pairs (p ∷ row) (s ∷ ss) h =
-      ap (λ f. keep f (s .key, s .value) (pairs ss)) (h .0 .0) ∙ (λ i. (h .0 .1 i, h .0 .2 i) ∷ holds-pairs row ss (h .1) i)
-
-  pub holds-short : (row : List (K × R)) (ss : List (Slot K R)) → Holds row ss → length row ≤ length ss
-  holds-short [] ss h = omega arith
-  holds-short (p ∷ row) [] h = absurd h
-  holds-short (p ∷ row) (s ∷ ss) h = omega (arith, holds-short row ss (h .1))
-
   -- the slot of the last pair shows whether a key may follow
   pub holds-last : (b : K → K → Bool) (k : K) (row : List (K × R)) (ss : List (Slot K R)) (n : ℕ) (d : Slot K R) → Holds row ss → length row ≡ suc n → follows b row k ≡ b (getD ss n d .key) k
   holds-last b k [] ss n d h e = absurd (omega arith)

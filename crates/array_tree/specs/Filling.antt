@@ -9,9 +9,9 @@ use Rattle.std.specs.declared.option.Option.{Option}
 use Rattle.std.specs.declared.option.Option.the-variants.{Some, None}
 use Rattle.ordered.specs.declared.slot.Slot.{Slot}
 use Rattle.ordered.specs.Meaning.{Ascending}
-use Rattle.ordered.specs.Slots.{pairs, Blank, Holds}
+use Rattle.ordered.specs.Slots.{countable, pairs, Blank, Holds}
 use Rattle.tree_layout.specs.declared.layout.Layout.{Layout}
-use Rattle.tree_layout.specs.Levels.{leafSlots, treeSlots, area, countable}
+use Rattle.tree_layout.specs.Levels.{leafSlots, treeSlots, area}
 use Rattle.tree_layout.specs.Rows.{LayoutOf}
 
 -- A row too short for a tree has no layout: no slots, and room for no pair.

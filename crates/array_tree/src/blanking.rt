@@ -1,19 +1,11 @@
 ghost use mathlib.Core.Path.{_≡_};
 ghost use Prim.Native.Nat.{_≤_};
 ghost use lib.ListN.{length};
-ghost use Rattle.ordered.specs.Slots.{Blank};
 ghost use Rattle.array_tree.specs.Filling.{Blanked, slotCount};
 use ordered::Key;
 use ordered::Slot;
+use slot_rows::blank;
 use tree_layout::Layout;
-
-fn blank_all<K: Key, R: Copy>(slots: &mut [Slot<K, R>])
-    ensures { λ _. ⌜ Blank (now (slots .exit)) ⌝ }
-{
-    for slot in slots.iter_mut() {
-        slot.filled = false;
-    }
-}
 
 fn slot_count(layout: Option<Layout>) -> usize
     ensures { λ r. ⌜ r ≡ slotCount layout ⌝ }
@@ -25,10 +17,10 @@ fn slot_count(layout: Option<Layout>) -> usize
 }
 
 // Blanks the slots of the tree, and no other.
-pub fn blank_tree<K: Key, R: Copy>(slots: &mut [Slot<K, R>], layout: Option<Layout>)
+pub(crate) fn blank_tree<K: Key, R: Copy>(slots: &mut [Slot<K, R>], layout: Option<Layout>)
     requires { ⌜ slotCount layout ≤ length (now slots) ⌝ }
     ensures { λ _. ⌜ Blanked (slotCount layout) (now (slots .entry)) (now (slots .exit)) ⌝ }
 {
     let n = slot_count(layout);
-    blank_all(&mut slots[0..n]);
+    blank(&mut slots[0..n]);
 }

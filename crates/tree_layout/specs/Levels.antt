@@ -1,7 +1,7 @@
 -- The numbers of a tree with m keys to a node: nodes are numbered from 0, level by level, the root first,
 -- and node n has the slots n * m to n * m + m - 1.
 use mathlib.Core.List.{List}
-use Prim.Native.Nat.{ℕ, zero, suc, _+_, _*_, _^_, min}
+use Prim.Native.Nat.{ℕ, zero, suc, _+_, _*_, _^_}
 use lib.ListN.{take, drop}
 
 -- the first node of level j
@@ -28,7 +28,3 @@ treeSlots m h = starts m (suc h) * m
 -- the slots of the leaves, in order: slot i of leaf p is number p * m + i of them
 abbrev pub area : {X : Type 0} → ℕ → ℕ → List X → List X
 area m h xs = take (leafSlots m h) (drop (starts m h * m) xs)
-
--- the slots of a row that count
-abbrev pub countable : ℕ → ℕ
-countable n = min n 1048575

@@ -6,4 +6,3 @@ mod row;
 
 pub use laws::sums_hold;
 pub use layout::Layout;
-pub use row::MOST_SLOTS;

@@ -1,11 +1,10 @@
 ghost use mathlib.Core.Path.{_≡_};
-ghost use Rattle.tree_layout.specs.Levels.{leafSlots, treeSlots, countable};
+ghost use Rattle.ordered.specs.Slots.{countable};
+ghost use Rattle.tree_layout.specs.Levels.{leafSlots, treeSlots};
 ghost use Rattle.tree_layout.specs.Rows.{LayoutOf};
 use crate::Layout;
 use ordered::Key;
-
-// Of a longer row no more slots count.
-pub const MOST_SLOTS: usize = 1_048_575;
+use ordered::MOST_SLOTS;
 
 impl Layout {
     // The layout of a row of `slots` slots for keys of the kind K, unless not even a root fits.
