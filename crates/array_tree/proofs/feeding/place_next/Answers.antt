@@ -2,7 +2,8 @@ use mathlib.Core.Logic.{⊎-elim}
 use native.Mathlib.Omega.{arith}
 use lib.ListN.{length}
 use borrow.Author.Needs.{needs, scaled-fits}
-use Rattle.array_tree.proofs.Nexts.{layout-slots, filling-fits, filling-room, not-after, no-room, accepted}
+use Rattle.tree_layout.proofs.Areas.{layout-slots}
+use Rattle.array_tree.proofs.Nexts.{filling-fits, filling-room, not-after, no-room, accepted}
 use Rattle.array_tree.proofs.feeding.place_next.Needs as need
 
 pub returns-then-slots : need.returns-then-slots
