@@ -7,9 +7,8 @@ use Prim.Native.Nat.{ℕ, _+_, _-_, _≤_, _<_}
 use native.Mathlib.Omega.{arith}
 use denote.Ref.{now}
 use borrow.Rule.Slice.Mut.{setVals}
-use lib.ListN.{length, getD, take, drop, set}
-use lib.Seq.{take-set-lt}
-use Rattle.std.proofs.shelf.Lists.{getD-take, getD-drop, length-take, length-drop, length-set, length-push, drop-set-add, take-set-le, nil-from-length}
+use lib.ListN.{length, getD, take, set}
+use Rattle.std.proofs.shelf.Lists.{getD-take, getD-drop, length-take, length-drop, length-set, length-push, take-set-le, nil-from-length}
 use Rattle.std.proofs.shelf.Tests.{cond-true, cond-false, eq-eqb, ne-eqb, cases-bool}
 use Rattle.std.specs.declared.option.Option.{Option}
 use Rattle.std.specs.declared.option.Option.the-variants.{Some, None}
@@ -24,25 +23,13 @@ use Rattle.ordered.specs.Meaning.{Ascending}
 use Rattle.tree_layout.specs.declared.layout.Layout.{Layout}
 use Rattle.tree_layout.specs.Levels.{leafSlots, treeSlots, area}
 use Rattle.tree_layout.specs.Rows.{LayoutOf}
-use Rattle.tree_layout.proofs.Levels.{tree-parts}
+use Rattle.tree_layout.proofs.Areas.{layout-slots, area-is, area-set}
 use Rattle.array_tree.specs.Filling.{Filling, Blanked, fedRow, slotCount, capacityOf, placeOf, follows, feedRefusal, filledWith}
 use Rattle.array_tree.specs.declared.filling_tree.FillingTree.{FillingTree}
 use Rattle.array_tree.specs.Trees.{Fills, rowOf, Fed}
 use Rattle.slot_rows.proofs.Held.{pairs-held, length-held, pairs-blank}
 use Rattle.array_tree.proofs.Blanks.{blank-front, blank-back}
 use Rattle.array_tree.proofs.Packed.{holds-last, holds-push, ascending-push}
-
--- the slots of a layout: those above the leaves, then theirs
-pub layout-slots : (p : Layout) → treeSlots (p .width) (p .height) ≡ p .base + leafSlots (p .width) (p .height)
-layout-slots p = tree-parts (p .width) (p .height) ∙ ap (λ x. x + leafSlots (p .width) (p .height)) (sym (p .above))
-
-area-is : {X : Type 0} (p : Layout) (xs : List X) → area (p .width) (p .height) xs ≡ take (leafSlots (p .width) (p .height)) (drop (p .base) xs)
-area-is p xs = ap (λ x. take (leafSlots (p .width) (p .height)) (drop x xs)) (sym (p .above))
-
--- a write to a leaf slot is a write to the area
-area-set : {X : Type 0} (p : Layout) (xs : List X) (n : ℕ) (s : X) → n < leafSlots (p .width) (p .height) → area (p .width) (p .height) (set xs (p .base + n) s) ≡ set (area (p .width) (p .height) xs) n s
-area-set p xs n s l =
-    area-is p (set xs (p .base + n) s) ∙ ap (take (leafSlots (p .width) (p .height))) (drop-set-add (p .base) xs n s) ∙ take-set-lt _ (drop (p .base) xs) n s l ∙ ap (λ (ys : List _). set ys n s) (sym (area-is p xs))
 
 module _ {K R : Type 0} {b : K → K → Bool} {m n : ℕ} {xs : List (Slot K R)} {p : Layout} (f : Filling b m xs (Some p) n) where
   pub filling-fits : treeSlots (p .width) (p .height) ≤ length xs
@@ -110,10 +97,6 @@ module _ {K R : Type 0} (b : K → K → Bool) (transitive : (x y z : K) → b x
 
       row : fedRow (Some p) (set xs (p .base + n) (filledWith k v)) ≡ fedRow (Some p) xs ++ ((k, v) ∷ [])
       row = ap pairs slots ∙ pairs-held (fedRow (Some p) xs ++ ((k, v) ∷ [])) _ held
-
-pub layout-fits : (m n : ℕ) (layout : Option Layout) → LayoutOf m (countable n) layout → slotCount layout ≤ n
-layout-fits m n None l = omega arith
-layout-fits m n (Some p) l = subst (λ w. treeSlots w (p .height) ≤ n) (sym (l .wide)) (omega (arith, l .fits))
 
 -- a tree just made
 pub made-empty : {K R : Type 0} (b : K → K → Bool) (m : ℕ) (xs ys : List (Slot K R)) (layout : Option Layout) → LayoutOf m (countable (length xs)) layout → Blanked (slotCount layout) xs ys

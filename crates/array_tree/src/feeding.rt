@@ -6,6 +6,8 @@ ghost use Rattle.std.specs.Vec.{made};
 ghost use Rattle.ordered.specs.Changes.{settled};
 ghost use Rattle.ordered.specs.Faults.{Outcome};
 ghost use Rattle.array_tree.specs.Filling.{Filling, fedRow, capacityOf, follows, feedRefusal, filledWith};
+ghost use Rattle.array_tree.specs.Trees.{Fed};
+use crate::FillingTree;
 use ordered::Fault;
 use ordered::Key;
 use ordered::Slot;
@@ -28,7 +30,7 @@ fn is_after_last<K: Key, R: Copy>(
 }
 
 // Puts a pair after the `count` pairs fed so far.
-pub fn place_next<K: Key, R: Copy>(
+fn place_next<K: Key, R: Copy>(
     slots: &mut [Slot<K, R>],
     layout: Layout,
     count: usize,
@@ -56,4 +58,19 @@ pub fn place_next<K: Key, R: Copy>(
         value,
     };
     Ok(())
+}
+
+impl<'a, K: Key, R: Copy> FillingTree<'a, K, R> {
+    // Adds a pair whose key is after every key so far.
+    pub fn feed(&mut self, key: K, value: R) -> Result<(), Fault>
+        ensures { λ r. ⌜ Fed (K·Key .before) (K·Key .width) key value r (now (self .entry)) (now (self .exit)) ⌝ }
+    {
+        let Some(layout) = self.layout else {
+            return Err(Fault::Full);
+        };
+        let count = self.count;
+        place_next(self.slots, layout, count, key, value)?;
+        self.count = count + 1;
+        Ok(())
+    }
 }

@@ -1,9 +1,7 @@
 ghost use mathlib.Core.Path.{_≡_};
 ghost use Rattle.array_tree.specs.Filling.{capacityOf};
-ghost use Rattle.array_tree.specs.Trees.{Made, Fed};
+ghost use Rattle.array_tree.specs.Trees.{Made};
 use crate::blanking::blank_tree;
-use crate::feeding::place_next;
-use ordered::Fault;
 use ordered::Key;
 use ordered::Slot;
 use tree_layout::Layout;
@@ -11,9 +9,9 @@ use tree_layout::Layout;
 // A tree that is fed pairs in the order of their keys.
 #[derive(Drop)]
 pub struct FillingTree<'a, K: Key, R: Copy> {
-    slots: &'a mut [Slot<K, R>],
-    layout: Option<Layout>,
-    count: usize,
+    pub(crate) slots: &'a mut [Slot<K, R>],
+    pub(crate) layout: Option<Layout>,
+    pub(crate) count: usize,
 }
 
 impl<'a, K: Key, R: Copy> FillingTree<'a, K, R> {
@@ -28,19 +26,6 @@ impl<'a, K: Key, R: Copy> FillingTree<'a, K, R> {
             layout,
             count: 0,
         }
-    }
-
-    // Adds a pair whose key is after every key so far.
-    pub fn feed(&mut self, key: K, value: R) -> Result<(), Fault>
-        ensures { λ r. ⌜ Fed (K·Key .before) (K·Key .width) key value r (now (self .entry)) (now (self .exit)) ⌝ }
-    {
-        let Some(layout) = self.layout else {
-            return Err(Fault::Full);
-        };
-        let count = self.count;
-        place_next(self.slots, layout, count, key, value)?;
-        self.count = count + 1;
-        Ok(())
     }
 
     // How many pairs were fed.

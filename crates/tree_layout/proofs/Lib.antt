@@ -1,2 +1,3 @@
+pub mod Areas
 pub mod Levels
 pub mod Rows

@@ -114,6 +114,3 @@ module _ {m n h base k : ℕ} (g : Grown m n h base k) where
     fits = subst (λ x. treeSlots m x ≤ n) (sym eh) (g .fits);
     tallest = λ j u. omega (arith, grown-next, tree-up m (suc h) j (omega arith));
   })
-
-pub layout-slots : (p : Layout) → p .base + p .leaves * p .width ≡ treeSlots (p .width) (p .height)
-layout-slots p = rw (p .above, p .many) (sym (tree-parts (p .width) (p .height)))

@@ -1,9 +1,9 @@
 use mathlib.Core.Logic.{⊎-elim}
-use Prim.Native.Nat.{_+_, _<_}
 use native.Mathlib.Omega.{arith}
 use lib.ListN.{length}
 use borrow.Author.Needs.{needs, scaled-fits}
-use Rattle.array_tree.proofs.Nexts.{layout-slots, filling-fits, filling-room, not-after, no-room, accepted}
+use Rattle.tree_layout.proofs.Areas.{layout-slots}
+use Rattle.array_tree.proofs.Nexts.{filling-fits, filling-room, not-after, no-room, accepted}
 use Rattle.array_tree.proofs.feeding.place_next.Needs as need
 
 pub returns-then-slots : need.returns-then-slots
@@ -34,9 +34,7 @@ pub add-layout : need.add-layout
 add-layout g c = omega (arith, layout-slots (c .args .layout))
 
 pub offset-slots-layout : need.offset-slots-layout
-offset-slots-layout g c =
-    let b : c .args .layout .base + c .args .count < length (c .args .slots .now) = omega (arith, layout-slots (c .args .layout)) in
-    scaled-fits _ (length (c .args .slots .now)) _ b (c .good .0 .1)
+offset-slots-layout g c = scaled-fits _ (length (c .args .slots .now)) _ (omega (arith, layout-slots (c .args .layout))) (c .good .0 .1)
 
 pub index-slots-layout : need.index-slots-layout
 index-slots-layout g c = omega (arith, layout-slots (c .args .layout))

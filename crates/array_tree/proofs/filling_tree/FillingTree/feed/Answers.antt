@@ -1,6 +1,7 @@
 use native.Mathlib.Omega.{arith}
 use Rattle.std.proofs.shelf.Results.{err-from-errBy}
-use Rattle.array_tree.proofs.Nexts.{layout-slots, fed-refused, fed-accepted}
+use Rattle.tree_layout.proofs.Areas.{layout-slots}
+use Rattle.array_tree.proofs.Nexts.{fed-refused, fed-accepted}
 use Rattle.array_tree.proofs.filling_tree.FillingTree.feed.Needs as need
 
 pub returns-in-Break-place-next : need.returns-in-Break-place-next
