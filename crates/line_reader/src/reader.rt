@@ -1,7 +1,7 @@
 ghost use mathlib.Core.Path.{_≡_};
 ghost use Prim.Native.Nat.{ℕ, _+_, _<_, _≤_};
 ghost use Rattle.line_reader.specs.Fields.{fields};
-ghost use Rattle.line_reader.specs.Reads.{reads, asks, arity, tagged};
+ghost use Rattle.line_reader.specs.Reads.{reads, asks, arity, tagged, sized};
 use crate::Reason;
 use crate::Refused;
 use crate::Request;
@@ -13,6 +13,7 @@ use logs::Call;
 use logs::Limits;
 use logs::Log;
 use logs::Rest;
+use logs::Species;
 
 // The most bytes of a line.
 const LONGEST: usize = 200;
@@ -42,25 +43,30 @@ fn read_arrive(line: &Fields) -> Result<Request, Refused>
     Ok(Request::Call(Call::Arrive(tag, body)))
 }
 
-fn read_call(line: &Fields) -> Result<Request, Refused>
-    ensures { λ r. ⌜ r ≡ asks Word.Call (fields (now (now (line .entry) .line))) ⌝ }
+// A species, a diameter, and a third field with limits of its own.
+fn read_sizes(line: &Fields, third: Limits) -> Result<(Species, u16, u16), Refused>
+    requires { ⌜ third .high < 65536 ⌝ }
+    ensures { λ r. ⌜ r ≡ sized third (fields (now (now (line .entry) .line))) ⌝ }
 {
     let species = line.letter(1)?;
     let d = line.number(2)?;
-    let l = line.number(3)?;
+    let e = line.number(3)?;
     let diameter = check(Limits::DIAMETER, d, 2)? as u16;
-    let length = check(Limits::LENGTH, l, 3)? as u16;
+    let other = check(third, e, 3)? as u16;
+    Ok((species, diameter, other))
+}
+
+fn read_call(line: &Fields) -> Result<Request, Refused>
+    ensures { λ r. ⌜ r ≡ asks Word.Call (fields (now (now (line .entry) .line))) ⌝ }
+{
+    let (species, diameter, length) = read_sizes(line, Limits::LENGTH)?;
     Ok(Request::Call(Call::Call(species, diameter, length)))
 }
 
 fn read_list(line: &Fields) -> Result<Request, Refused>
     ensures { λ r. ⌜ r ≡ asks Word.List (fields (now (now (line .entry) .line))) ⌝ }
 {
-    let species = line.letter(1)?;
-    let d = line.number(2)?;
-    let e = line.number(3)?;
-    let low = check(Limits::DIAMETER, d, 2)? as u16;
-    let high = check(Limits::DIAMETER, e, 3)? as u16;
+    let (species, low, high) = read_sizes(line, Limits::DIAMETER)?;
     if low <= high {
         Ok(Request::Call(Call::List(species, low, high)))
     } else {
