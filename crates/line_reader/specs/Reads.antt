@@ -67,6 +67,10 @@ abbrev pub fitted : Draft → Read (ℕ × Body)
 fitted x = within tags (x .tag) 1 then λ t. within diameters (x .diameter) 3 then λ d. within lengths (x .length) 4 then λ l. within bays (x .bay) 5 then λ b.
     Ok (t, record { species = x .species; diameter = d; length = l; bay = b })
 
+-- a species, a diameter, and a third field with limits of its own
+abbrev pub sized : Limits → List (List ℕ) → Read (Species × ℕ × ℕ)
+sized third fs = letterAt fs 1 then λ s. numberAt fs 2 then λ d. numberAt fs 3 then λ e. within diameters d 2 then λ d. within third e 3 then λ e. Ok (s, d, e)
+
 -- how many fields follow the word
 abbrev pub arity : Word → ℕ
 arity word.Log = 6
@@ -85,13 +89,11 @@ asks word.Log fs = drafted fs then λ x. placeAt fs 6 then λ p. fitted x then �
 asks word.Open fs = Ok request.Open
 asks word.Arrive fs = drafted fs then λ x. fitted x then λ y. Ok (request.Call (call.Arrive (y .0) (y .1)))
 asks word.Withdraw fs = tagged fs then λ t. Ok (request.Call (call.Withdraw t))
-asks word.Call fs = letterAt fs 1 then λ s. numberAt fs 2 then λ d. numberAt fs 3 then λ l.
-    within diameters d 2 then λ d. within lengths l 3 then λ l. Ok (request.Call (call.Call s d l))
+asks word.Call fs = sized lengths fs then λ x. Ok (request.Call (call.Call (x .0) (x .1) (x .2)))
 asks word.Saw fs = tagged fs then λ t. Ok (request.Call (call.Saw t))
 asks word.Back fs = tagged fs then λ t. Ok (request.Call (call.Back t))
 asks word.Find fs = tagged fs then λ t. Ok (request.Call (call.Find t))
-asks word.List fs = letterAt fs 1 then λ s. numberAt fs 2 then λ d. numberAt fs 3 then λ e.
-    within diameters d 2 then λ d. within diameters e 3 then λ e. cond (leb d e) (Ok (request.Call (call.List s d e))) (refuse Reversed 3)
+asks word.List fs = sized diameters fs then λ x. cond (leb (x .1) (x .2)) (Ok (request.Call (call.List (x .0) (x .1) (x .2)))) (refuse Reversed 3)
 
 -- a word and its count of fields
 abbrev pub worded : Option Word → List (List ℕ) → Read Request

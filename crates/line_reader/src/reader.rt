@@ -1,7 +1,7 @@
 ghost use mathlib.Core.Path.{_≡_};
 ghost use Prim.Native.Nat.{ℕ, _+_, _<_, _≤_};
 ghost use Rattle.line_reader.specs.Fields.{fields};
-ghost use Rattle.line_reader.specs.Reads.{reads, asks, arity, tagged};
+ghost use Rattle.line_reader.specs.Reads.{reads, asks, arity, tagged, sized};
 use crate::Reason;
 use crate::Refused;
 use crate::Request;
@@ -13,6 +13,7 @@ use logs::Call;
 use logs::Limits;
 use logs::Log;
 use logs::Rest;
+use logs::Species;
 
 // The most bytes of a line.
 const LONGEST: usize = 200;
@@ -42,25 +43,30 @@ fn read_arrive(line: &Fields) -> Result<Request, Refused>
     Ok(Request::Call(Call::Arrive(tag, body)))
 }
 
-fn read_call(line: &Fields) -> Result<Request, Refused>
-    ensures { λ r. ⌜ r ≡ asks Word.Call (fields (now (now (line .entry) .line))) ⌝ }
+// A species, a diameter, and a third field with limits of its own.
+fn read_sizes(line: &Fields, third: Limits) -> Result<(Species, u16, u16), Refused>
+    requires { ⌜ third .high < 65536 ⌝ }
+    ensures { λ r. ⌜ r ≡ sized third (fields (now (now (line .entry) .line))) ⌝ }
 {
     let species = line.letter(1)?;
     let d = line.number(2)?;
-    let l = line.number(3)?;
+    let e = line.number(3)?;
     let diameter = check(Limits::DIAMETER, d, 2)? as u16;
-    let length = check(Limits::LENGTH, l, 3)? as u16;
+    let other = check(third, e, 3)? as u16;
+    Ok((species, diameter, other))
+}
+
+fn read_call(line: &Fields) -> Result<Request, Refused>
+    ensures { λ r. ⌜ r ≡ asks Word.Call (fields (now (now (line .entry) .line))) ⌝ }
+{
+    let (species, diameter, length) = read_sizes(line, Limits::LENGTH)?;
     Ok(Request::Call(Call::Call(species, diameter, length)))
 }
 
 fn read_list(line: &Fields) -> Result<Request, Refused>
     ensures { λ r. ⌜ r ≡ asks Word.List (fields (now (now (line .entry) .line))) ⌝ }
 {
-    let species = line.letter(1)?;
-    let d = line.number(2)?;
-    let e = line.number(3)?;
-    let low = check(Limits::DIAMETER, d, 2)? as u16;
-    let high = check(Limits::DIAMETER, e, 3)? as u16;
+    let (species, low, high) = read_sizes(line, Limits::DIAMETER)?;
     if low <= high {
         Ok(Request::Call(Call::List(species, low, high)))
     } else {
@@ -112,39 +118,4 @@ pub fn read_request(line: &[u8]) -> Result<Request, Refused>
         return Err(Refused::at(Reason::FieldCount, 0));
     }
     read_fields(word, &fields)
-}
-
-#[cfg(test)]
-mod tests {
-    use super::read_request;
-    use std::test::*;
-
-    // The number and the position of the refusal, or 0 twice.
-    fn refusal(line: &[u8]) -> (u8, u8) {
-        match read_request(line) {
-            Ok(_) => (0, 0),
-            Err(refused) => (refused.number(), refused.position()),
-        }
-    }
-
-    #[test]
-    fn limits_are_within() -> Result<(), Fail> {
-        check_eq(refusal(b"LOG\t1\tS\t80\t100\t1\tYARD"), (0, 0))?;
-        check_eq(refusal(b"LOG\t4294967295\tD\t1200\t1500\t200\tSAW"), (0, 0))?;
-        check_eq(refusal(b"LOG\t7\tP\t79\t100\t1\tYARD"), (14, 3))?;
-        check_eq(refusal(b"ARRIVE\t7\tP\t1201\t100\t1"), (14, 3))
-    }
-
-    #[test]
-    fn lines_end_at_200_bytes() -> Result<(), Fail> {
-        check_eq(refusal(&[b'A'; 200]), (11, 0))?;
-        check_eq(refusal(&[b'A'; 201]), (10, 0))
-    }
-
-    #[test]
-    fn odd_bytes() -> Result<(), Fail> {
-        check_eq(refusal(b""), (11, 0))?;
-        check_eq(refusal(b"FIND\t\xff"), (13, 1))?;
-        check_eq(refusal(b"FIND\t07"), (13, 1))
-    }
 }
