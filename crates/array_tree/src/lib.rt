@@ -3,7 +3,9 @@
 mod blanking;
 mod feeding;
 mod filling_tree;
+mod standing_tree;
 #[cfg(test)]
 mod tests;
 
 pub use filling_tree::FillingTree;
+pub use standing_tree::ArrayTree;
