@@ -14,6 +14,8 @@ use Rattle.std.specs.declared.option.Option.the-variants.{Some, None}
 use Rattle.ordered.specs.declared.slot.Slot.{Slot}
 use Rattle.ordered.specs.Slots.{keep, pairs, Blank, Holds}
 use Rattle.tree_layout.specs.Levels.{starts, leaves, leafSlots, treeSlots, area}
+use Rattle.tree_layout.specs.declared.layout.Layout.{Layout}
+use Rattle.tree_layout.proofs.Areas.{layout-room, layout-slots}
 use Rattle.tree_layout.proofs.Levels.{tree-parts}
 use Rattle.tree_index.specs.Index.{leafOf, firstKey, indexKey, IndexAt, Names, RuleAt}
 use Rattle.tree_index.specs.Standing.{Packed}
@@ -71,10 +73,25 @@ module _ {X : Type 0} (m h : ℕ) (xs : List X) (fit : treeSlots m h ≤ length 
     pub leaf-at : (i : ℕ) (d : X) → i < m → getD (leafOf m h xs p) i d ≡ getD xs (starts m h * m + (p * m + i)) d
     leaf-at i d li = getD-take m _ i d li ∙ getD-drop (p * m) (area m h xs) i d ∙ getD-take (leafSlots m h) _ (p * m + i) d (omega (arith, mul-le-mul-right m l)) ∙ getD-drop (starts m h * m) xs (p * m + i) d
 
+pub leaf-within : (y : Layout) (p : ℕ) → p < y .leaves → y .base + (p * y .width + y .width) ≤ treeSlots (y .width) (y .height)
+leaf-within y p l = omega (arith, layout-slots y, layout-room y, mul-le-mul-right (y .width) l)
+
+-- the first slot of a leaf
+pub head-within : (y : Layout) (p : ℕ) → p < y .leaves → y .base + p * y .width < treeSlots (y .width) (y .height)
+head-within y p l = omega (arith, leaf-within y p l, y .narrowest)
+
 -- a slot that names a key, read back
 pub names-read : {K R : Type 0} (s : Slot K R) (o : Option K) → Names s o → cond (s .filled) (Some (s .key)) None ≡ o
 names-read s None e = ap (λ t. cond t (Some (s .key)) None) e
 names-read s (Some k) e = ap (λ t. cond t (Some (s .key)) None) (e .0) ∙ ap Some (e .1)
+
+module _ {K R : Type 0} (m h p s : ℕ) (xs : List (Slot K R)) (a : IndexAt m h p s) where
+  pub slot-within : treeSlots m h ≤ length xs → s < length xs
+  slot-within fit = omega (arith, slot-low m h p s a, tree-parts m h)
+
+  -- what the index slot of a leaf tells
+  pub told : (x : Slot K R) (t : Bool) → x .filled ≡ t → x ≡ getD xs s x → RuleAt m h xs p → cond t (Some (x .key)) None ≡ indexKey m h xs p
+  told x t f is r = ap (λ u. cond u (Some (x .key)) None) (sym f) ∙ names-read x _ (subst (λ (y : Slot K R). Names y (indexKey m h xs p)) (sym is) (r s x a))
 
 -- slots with the same leaves have the same index keys, and a slot that stays keeps its rule
 module _ {K R : Type 0} (m h : ℕ) (xs ys : List (Slot K R)) (same : area m h ys ≡ area m h xs) where
@@ -122,15 +139,15 @@ module _ {K R : Type 0} (m h : ℕ) (xs : List (Slot K R)) (low high : ℕ) (fou
     same-leaves = area-same m h xs ys low high (r .long) (r .others)
 
     -- the key to carry on, by the first slot of leaf p
-    pub carried : (x : Slot K R) (now : Option K) → 0 < m → low < p → x ≡ getD ys (starts m h * m + p * m) x → now ≡ orElse (cond (x .filled) (Some (x .key)) None) next → Ready m h xs low high found → now ≡ indexKey m h xs p
-    carried x now pm lp is e ready =
+    pub carried : (x : Slot K R) (t : Bool) (now : Option K) (base : ℕ) → 0 < m → low < p → base ≡ starts m h * m → x ≡ getD ys (base + p * m) x → x .filled ≡ t → now ≡ orElse (cond t (Some (x .key)) None) next → Ready m h xs low high found → now ≡ indexKey m h xs p
+    carried x t now base pm lp eb is f e ready =
         let l : p < leaves m h = omega (arith, r .within, ready .within) in
-        let z : starts m h * m + (p * m + 0) ≡ starts m h * m + p * m = omega arith in
+        let z : starts m h * m + (p * m + 0) ≡ base + p * m = omega arith in
         let fit : treeSlots m h ≤ length ys = omega (arith, ready .fits, r .long) in
         let head : x ≡ getD (leafOf m h ys p) 0 x = is ∙ sym (leaf-at m h ys fit p l 0 x pm ∙ ap (λ k. getD ys k x) z) in
         let own : leafOf m h ys p ≡ leafOf m h xs p = ap (λ (zs : List (Slot K R)). take m (drop (p * m) zs)) same-leaves in
         let key : firstKey (leafOf m h xs p) ≡ cond (x .filled) (Some (x .key)) None = packed-head (leafOf m h xs p) x (ready .packed p lp (r .within)) (omega (arith, leaf-long m h xs (ready .fits) p l)) (subst (λ (zs : List (Slot K R)). x ≡ getD zs 0 x) own head) in
-        e ∙ ap (orElse (cond (x .filled) (Some (x .key)) None)) (r .carries ready) ∙ ap (λ o. orElse o (indexKey m h xs (p + 1))) (sym key) ∙ sym (index-next m h p xs)
+        e ∙ ap (λ u. orElse (cond u (Some (x .key)) None) next) (sym f) ∙ ap (orElse (cond (x .filled) (Some (x .key)) None)) (r .carries ready) ∙ ap (λ o. orElse o (indexKey m h xs (p + 1))) (sym key) ∙ sym (index-next m h p xs)
 
     -- one leaf more
     pub renewed-more : (zs : List (Slot K R)) (s : ℕ) (v : Slot K R) (now : Option K) → low < p → IndexAt m h p s → s < length ys → zs ≡ set ys s v → Names v now → (Ready m h xs low high found → now ≡ indexKey m h xs p) → Renewed m h xs zs low high found (p - 1) now
