@@ -1,3 +1,4 @@
 pub mod Blanks
 pub mod Packed
 pub mod Nexts
+pub mod Closes

@@ -3,6 +3,7 @@ use mathlib.Core.Path.{_≡_, refl, sym, ap, subst, _∙_}
 use mathlib.Core.Logic.{_≢_, ⊎-elim}
 use Prim.Native.Nat.{ℕ, zero, suc, _+_, _-_, _*_, _/_, _%_, _^_, _≤_, _<_}
 use native.Mathlib.Omega.{arith}
+use lib.Pow.{pow-add}
 use native.Mathlib.Nat.{one-le-pow, pow-zero, pow-suc, mul-le-mul-left, mul-le-mul-right, eq-of-mul-eq-mul-left, mul-div-cancel, div-add-mod', lt-of-mul-lt-mul-right, zero-mul}
 use Rattle.std.proofs.shelf.Tests.{cases-lt}
 use Rattle.std.proofs.shelf.Bits.{div-mul-add, mod-mul-add, mod-below, div-below}
@@ -20,6 +21,10 @@ node-below m h j n d e l = omega (arith, mul-le-mul-right m a, mul-le-mul-right 
 
     b : starts m (suc j) ≤ starts m (suc h)
     b = starts-up m (suc j) d (suc h) (omega arith)
+
+-- a child's place in the next level
+pub child-below : (m j n c : ℕ) → n < (m + 1) ^ j → c ≤ m → n * (m + 1) + c < (m + 1) ^ suc j
+child-below m j n c l h = rw pow-suc (omega (arith, mul-le-mul-right (m + 1) l))
 
 -- a number below the width tells the place and the node apart
 pub row-inj : (a b w i j : ℕ) → i < w → j < w → a * w + i ≡ b * w + j → (a ≡ b) × (i ≡ j)
@@ -87,6 +92,16 @@ module _ (m h p s : ℕ) (a : IndexAt m h p s) where
     where
       pw : 1 ≤ (m + 1) ^ a .w
       pw = one-le-pow (a .w) (m + 1) (omega arith)
+
+  -- nor has one past the last leaf
+  pub index-below : p < leaves m h
+  index-below =
+      subst (λ x. x < leaves m h) (a .leaf)
+      (subst (λ x. (a .n * (m + 1) + suc (a .i)) * (m + 1) ^ a .w < x) all
+      (omega (arith, mul-le-mul-right ((m + 1) ^ a .w) (child-below m (a .j) (a .n) (suc (a .i)) (a .node) (a .within)), one-le-pow (a .w) (m + 1) (omega arith))))
+    where
+      all : (m + 1) ^ suc (a .j) * (m + 1) ^ a .w ≡ leaves m h
+      all = let e : suc (a .j) + a .w ≡ h = omega (arith, a .level) in sym (pow-add (m + 1) (suc (a .j)) (a .w)) ∙ ap (λ x. (m + 1) ^ x) e
 
 -- The way up so far from leaf p: node q of the level below level j, whose first node is `from`.
 pub record Climb (m h p q from : ℕ) : Type 0 where
