@@ -5,7 +5,7 @@ use mathlib.Core.Bool.{Bool, true, false, cond}
 use mathlib.Core.Logic.{_≢_, ⊎-elim}
 use Prim.Native.Nat.{ℕ, zero, suc, _+_, _-_, _*_, _≤_, _<_}
 use native.Mathlib.Omega.{arith}
-use native.Mathlib.Nat.{mul-le-mul-right}
+use native.Mathlib.Nat.{mul-le-mul-right, one-le-pow}
 use lib.ListN.{length, getD, set, take, drop, length-take, length-drop, length-set}
 use Rattle.std.proofs.shelf.Tests.{cases-eq, cases-lt}
 use Rattle.std.proofs.shelf.Lists.{drop-drop, drop-all, take-append-drop, getD-take, getD-drop, getD-read, getD-default, getD-set-same, getD-set-other, drop-set-lt, same-lists}
@@ -72,6 +72,9 @@ module _ {X : Type 0} (m h : ℕ) (xs : List X) (fit : treeSlots m h ≤ length 
     -- slot i of leaf p
     pub leaf-at : (i : ℕ) (d : X) → i < m → getD (leafOf m h xs p) i d ≡ getD xs (starts m h * m + (p * m + i)) d
     leaf-at i d li = getD-take m _ i d li ∙ getD-drop (p * m) (area m h xs) i d ∙ getD-take (leafSlots m h) _ (p * m + i) d (omega (arith, mul-le-mul-right m l)) ∙ getD-drop (starts m h * m) xs (p * m + i) d
+
+pub some-leaf : (y : Layout) → 1 ≤ y .leaves
+some-leaf y = subst (λ n. 1 ≤ n) (sym (y .many)) (one-le-pow (y .height) (y .width + 1) (omega arith))
 
 pub leaf-within : (y : Layout) (p : ℕ) → p < y .leaves → y .base + (p * y .width + y .width) ≤ treeSlots (y .width) (y .height)
 leaf-within y p l = omega (arith, layout-slots y, layout-room y, mul-le-mul-right (y .width) l)
