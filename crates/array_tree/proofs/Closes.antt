@@ -5,7 +5,6 @@ use mathlib.Core.Bool.{Bool}
 use mathlib.Core.Logic.{⊎-elim}
 use Prim.Native.Nat.{ℕ, _+_, _-_, _*_, _≤_, _<_}
 use native.Mathlib.Omega.{arith}
-use native.Mathlib.Nat.{one-le-pow}
 use lib.ListN.{length, take, drop}
 use denote.Ref.{now}
 use borrow.Rule.Slice.Mut.{setVals}
@@ -22,7 +21,7 @@ use Rattle.tree_index.specs.Index.{IndexAt, RuleAt}
 use Rattle.tree_index.specs.Standing.{Packed}
 use Rattle.tree_index.specs.Refreshing.{Ready, Refreshed}
 use Rattle.tree_index.proofs.Stand.{index-pos, index-below}
-use Rattle.tree_index.proofs.Keys.{index-past, rest-same, area-same}
+use Rattle.tree_index.proofs.Keys.{some-leaf, index-past, rest-same, area-same}
 use Rattle.tree_index.proofs.Leaves.{packed-leaf}
 use Rattle.array_tree.specs.declared.filling_tree.FillingTree.{FillingTree}
 use Rattle.array_tree.specs.declared.standing_tree.ArrayTree.{ArrayTree}
@@ -30,9 +29,6 @@ use Rattle.array_tree.specs.Filling.{Filling, leafArea}
 use Rattle.array_tree.specs.Standing.{Standing, Keeps, rowIn, baseOf, Closed}
 use Rattle.array_tree.specs.Trees.{Fills, rowOf}
 use Rattle.array_tree.proofs.Nexts.{filling-fits}
-
-pub some-leaf : (p : Layout) → 1 ≤ p .leaves
-some-leaf p = subst (λ n. 1 ≤ n) (sym (p .many)) (one-le-pow (p .height) (p .width + 1) (omega arith))
 
 -- what closing does to the slots
 record Filled {K R : Type 0} (b : K → K → Bool) (m n : ℕ) (layout : Option Layout) (xs ys : List (Slot K R)) : Type 0 where

@@ -1,3 +1,4 @@
+pub mod Answered
 pub mod Blanks
 pub mod Packed
 pub mod Nexts

@@ -4,6 +4,7 @@ mod blanking;
 mod closing;
 mod feeding;
 mod filling_tree;
+mod questions;
 mod standing_tree;
 #[cfg(test)]
 mod tests;

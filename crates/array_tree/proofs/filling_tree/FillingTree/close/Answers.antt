@@ -3,7 +3,8 @@ use mathlib.Core.List.{List}
 use Prim.Native.Nat.{_-_}
 use Rattle.std.specs.declared.option.Option.the-variants.{None}
 use Rattle.tree_index.specs.Refreshing.{Refreshed}
-use Rattle.array_tree.proofs.Closes.{some-leaf, closed-some, closed-none}
+use Rattle.tree_index.proofs.Keys.{some-leaf}
+use Rattle.array_tree.proofs.Closes.{closed-some, closed-none}
 use Rattle.array_tree.proofs.filling_tree.FillingTree.close.Needs.{in-Some, in-rest}
 use Rattle.array_tree.proofs.filling_tree.FillingTree.close.Needs as need
 
