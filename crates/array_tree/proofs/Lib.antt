@@ -1,3 +1,5 @@
+pub mod Answered
 pub mod Blanks
 pub mod Packed
 pub mod Nexts
+pub mod Closes

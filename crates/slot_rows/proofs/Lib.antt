@@ -1,3 +1,4 @@
 pub mod Halves
 pub mod Held
+pub mod Looks
 pub mod Shifts

@@ -1,0 +1,3 @@
+pub mod Stand
+pub mod Keys
+pub mod Leaves
