@@ -1,3 +1,5 @@
 pub mod Halves
 pub mod Held
+pub mod Parts
 pub mod Shifts
+pub mod Splices

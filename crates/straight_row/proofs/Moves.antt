@@ -31,8 +31,8 @@ use Rattle.slot_rows.proofs.Held.{headOf, pairs-blank, pairs-held, length-held,
 use Rattle.straight_row.specs.declared.row.StraightRow.{StraightRow}
 use Rattle.straight_row.specs.Index.{rowIn, roomIn, Keeps}
 use Rattle.straight_row.specs.Straight.{counted, rowOf, Straight, Leaves, Edited}
-use Rattle.straight_row.proofs.Edits.{spliced, spliced-take, spliced-drop, spliced-long, length-cut, part-front, pushed-up, pushed-down}
-use Rattle.straight_row.proofs.Rowed.{put-in, put-over, taken-out}
+use Rattle.slot_rows.proofs.Splices.{spliced, spliced-take, spliced-drop, spliced-long, length-cut, part-front, pushed-up, pushed-down}
+use Rattle.slot_rows.proofs.Parts.{put-in, put-over, taken-out}
 
 inside-ok : (t : Bool) (n m : ℕ) → Ok n ≡ cond t (Ok m) (Err m) → (t ≡ true) × (n ≡ m)
 inside-ok true n m e = (refl, cc)
