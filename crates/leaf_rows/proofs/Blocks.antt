@@ -41,7 +41,7 @@ module _ {K R : Type 0} where
   pairs-append [] ts = refl
   pairs-append (s ∷ ss) ts =
       elim (s .filled) as (λ t. keep t (s .key, s .value) (pairs (ss ++ ts)) ≡ keep t (s .key, s .value) (pairs ss) ++ pairs ts)
-        [ true ↦ ap (λ ps. (s .key, s .value) ∷ ps) (pairs-append ss ts) | false ↦ pairs-append ss ts ]
+      [ true ↦ ap (λ ps. (s .key, s .value) ∷ ps) (pairs-append ss ts) | false ↦ pairs-append ss ts ]
 
   abbrev pub keyOf : Option (K × R) → Option K
   keyOf None = None
@@ -57,9 +57,10 @@ module _ {K R : Type 0} where
       → Packed (take (suc j * m) (drop (t * m) ys)) × (length (pairs (take (suc j * m) (drop (t * m) ys))) ≡ j * m + countAt m ys (t + j))
   full-block m ys n e zero t l packed full =
       let q : suc zero * m ≡ m = omega arith in
-      let z : t + zero ≡ t = omega arith in
-      ( subst (λ k. Packed (take k (drop (t * m) ys))) (sym q) (packed t (omega arith) (omega arith))
-      , ap (λ k. length (pairs (take k (drop (t * m) ys)))) q ∙ ap (λ k. countAt m ys k) (sym z) ∙ omega arith )
+      let z : t + zero ≡ t = omega arith in (
+        subst (λ k. Packed (take k (drop (t * m) ys))) (sym q) (packed t (omega arith) (omega arith)),
+        ap (λ k. length (pairs (take k (drop (t * m) ys)))) q ∙ ap (λ k. countAt m ys k) (sym z) ∙ omega arith,
+      )
   full-block m ys n e (suc j) t l packed full =
       let A : List (Slot K R) = leafAt m ys t in
       let B : List (Slot K R) = take (suc j * m) (drop (suc t * m) ys) in
@@ -69,9 +70,10 @@ module _ {K R : Type 0} where
       let d : drop m (drop (t * m) ys) ≡ drop (suc t * m) ys = drop-drop m (t * m) ys ∙ ap (λ k. drop k ys) (sym (suc-times t m)) in
       let split : take (suc (suc j) * m) (drop (t * m) ys) ≡ A ++ B = ap (λ k. take k (drop (t * m) ys)) q ∙ take-add m (suc j * m) (drop (t * m) ys) ∙ ap (λ zs. A ++ take (suc j * m) zs) d in
       let c : countAt m ys t ≡ m = full t (omega arith) (omega arith) in
-      let held : Holds (pairs A ++ pairs B) (A ++ B) = held-append (pairs A) (pairs B) A B (leaf-long m n t ys e (omega (arith, l)) ∙ sym c) (packed t (omega arith) (omega arith)) (ih .0) in
-      ( subst Packed (sym split) (subst (λ r. Holds r (A ++ B)) (sym (pairs-append A B)) held)
-      , ap (λ zs. length (pairs zs)) split ∙ ap length (pairs-append A B) ∙ length-append (pairs A) (pairs B) ∙ omega (arith, c, ih .1, ap (λ k. countAt m ys k) w, suc-times j m) )
+      let held : Holds (pairs A ++ pairs B) (A ++ B) = held-append (pairs A) (pairs B) A B (leaf-long m n t ys e (omega (arith, l)) ∙ sym c) (packed t (omega arith) (omega arith)) (ih .0) in (
+        subst Packed (sym split) (subst (λ r. Holds r (A ++ B)) (sym (pairs-append A B)) held),
+        ap (λ zs. length (pairs zs)) split ∙ ap length (pairs-append A B) ∙ length-append (pairs A) (pairs B) ∙ omega (arith, c, ih .1, ap (λ k. countAt m ys k) w, suc-times j m),
+      )
 
 -- what follows, for leaves lo to lo + j of a row of n leaves
 module _ {X : Type 0} (m n lo j : ℕ) (A S T C : List X) (la : length A ≡ lo * m) (ls : length S ≡ suc j * m) (lt : length T ≡ suc j * m) where
@@ -115,10 +117,10 @@ module _ {X : Type 0} (m n lo j : ℕ) (A S T C : List X) (la : length A ≡ lo 
       let le : suc (lo + j) * m ≤ p * m = mul-le-mul-right m l in
       far T lt (omega (arith, le, s, add-mul lo j m, suc-times j m)) ∙ sym (far S ls (omega (arith, le, s, add-mul lo j m, suc-times j m)))
     where
-    far : (Z : List X) → length Z ≡ suc j * m → lo * m + suc j * m ≤ p * m → drop (p * m) (A ++ (Z ++ C)) ≡ drop (p * m - (lo * m + suc j * m)) C
-    far Z lz le =
-        let q : p * m ≡ length (A ++ Z) + (p * m - (lo * m + suc j * m)) = omega (arith, length-append A Z, la, lz, le) in
-        ap (drop (p * m)) (sym (append-assoc A Z C)) ∙ ap (λ k. drop k ((A ++ Z) ++ C)) q ∙ drop-append-add (A ++ Z) C (p * m - (lo * m + suc j * m))
+      far : (Z : List X) → length Z ≡ suc j * m → lo * m + suc j * m ≤ p * m → drop (p * m) (A ++ (Z ++ C)) ≡ drop (p * m - (lo * m + suc j * m)) C
+      far Z lz le =
+          let q : p * m ≡ length (A ++ Z) + (p * m - (lo * m + suc j * m)) = omega (arith, length-append A Z, la, lz, le) in
+          ap (drop (p * m)) (sym (append-assoc A Z C)) ∙ ap (λ k. drop k ((A ++ Z) ++ C)) q ∙ drop-append-add (A ++ Z) C (p * m - (lo * m + suc j * m))
 
   pub drop-before : (Z : List X) (p : ℕ) → p ≤ lo → drop (p * m) (A ++ Z) ≡ drop (p * m) A ++ Z
   drop-before Z p l = drop-append-le (p * m) A Z (omega (arith, mul-le-mul-right m l, la))

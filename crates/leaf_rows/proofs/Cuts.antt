@@ -57,24 +57,24 @@ module _ {K R : Type 0} {b : K → K → Bool} (o : Order b) (k : K) where
   before-place [] = tt
   before-place (p ∷ ps) = step (b (p .0) k) refl (before-place ps)
     where
-    step : (t : Bool) → b (p .0) k ≡ t → Before b k (take (at o k ps) ps) → Before b k (take (cond t (suc (at o k ps)) 0) (p ∷ ps))
-    step true e ih = (e, ih)
-    step false e ih = tt
+      step : (t : Bool) → b (p .0) k ≡ t → Before b k (take (at o k ps) ps) → Before b k (take (cond t (suc (at o k ps)) 0) (p ∷ ps))
+      step true e ih = (e, ih)
+      step false e ih = tt
 
   pub after-place : (row : List (K × R)) → Ascending b row → holds b row k ≡ false → After b k (drop (at o k row) row)
   after-place [] a h = tt
   after-place (p ∷ ps) a h = step (b (p .0) k) (b k (p .0)) refl refl h (after-place ps (a .1))
     where
-    step : (t u : Bool) → b (p .0) k ≡ t → b k (p .0) ≡ u → isSome (cond (not t && not u) (Some (p .1)) (lookup b ps k)) ≡ false → (holds b ps k ≡ false → After b k (drop (at o k ps) ps)) → After b k (drop (cond t (suc (at o k ps)) 0) (p ∷ ps))
-    step true u e f h ih = ih h
-    step false true e f h ih = (f, after-further o k (p .0) ps f (a .0))
-    step false false e f h ih = absurd (both-ways true h refl)
+      step : (t u : Bool) → b (p .0) k ≡ t → b k (p .0) ≡ u → isSome (cond (not t && not u) (Some (p .1)) (lookup b ps k)) ≡ false → (holds b ps k ≡ false → After b k (drop (at o k ps) ps)) → After b k (drop (cond t (suc (at o k ps)) 0) (p ∷ ps))
+      step true u e f h ih = ih h
+      step false true e f h ih = (f, after-further o k (p .0) ps f (a .0))
+      step false false e f h ih = absurd (both-ways true h refl)
 
   -- a row that begins with a key not after k, and lacks k, has a pair before its place
   pub place-some : (row : List (K × R)) → Headed b k row → holds b row k ≡ false → 0 < at o k row
   place-some [] h n = absurd h
   place-some (p ∷ ps) h n = step (b (p .0) k) refl n
     where
-    step : (t : Bool) → b (p .0) k ≡ t → isSome (cond (not t && not (b k (p .0))) (Some (p .1)) (lookup b ps k)) ≡ false → 0 < cond t (suc (at o k ps)) 0
-    step true e n = omega arith
-    step false e n = let z : isSome (cond (not (b k (p .0))) (Some (p .1)) (lookup b ps k)) ≡ true = ap (λ u. isSome (cond (not u) (Some (p .1)) (lookup b ps k))) h in absurd (both-ways (isSome (cond (not (b k (p .0))) (Some (p .1)) (lookup b ps k))) n z)
+      step : (t : Bool) → b (p .0) k ≡ t → isSome (cond (not t && not (b k (p .0))) (Some (p .1)) (lookup b ps k)) ≡ false → 0 < cond t (suc (at o k ps)) 0
+      step true e n = omega arith
+      step false e n = let z : isSome (cond (not (b k (p .0))) (Some (p .1)) (lookup b ps k)) ≡ true = ap (λ u. isSome (cond (not u) (Some (p .1)) (lookup b ps k))) h in absurd (both-ways (isSome (cond (not (b k (p .0))) (Some (p .1)) (lookup b ps k))) n z)

@@ -44,13 +44,13 @@ module _ {K R : Type 0} where
   sink k v x s sh [] ss (suc i) h e p l g = absurd (omega (arith, l))
   sink k v x s sh (q ∷ row) [] (suc i) h e p l g = absurd h
   sink k v x s sh (q ∷ row) (y ∷ ss) (suc i) h e p l g = record {
-      first = q;
-      shown = subst (λ z. Shows z q) (sym g) (h .0);
-      begins = refl;
-      held = subst (Holds (take i row ++ ((k, v) ∷ drop i row))) (sym (append-assoc (take i ss) (x ∷ []) (drop i ss)))
+    first = q;
+    shown = subst (λ z. Shows z q) (sym g) (h .0);
+    begins = refl;
+    held = subst (Holds (take i row ++ ((k, v) ∷ drop i row))) (sym (append-assoc (take i ss) (x ∷ []) (drop i ss)))
         (held-append (take i row) ((k, v) ∷ drop i row) (take i ss) (x ∷ drop i ss) (length-take-le i ss (omega (arith, l, e)) ∙ sym (length-take-le i row (omega (arith, l))))
-          (held-take i row ss (omega (arith, l)) (h .1)) (sh, held-drop i row ss (omega (arith, l)) (h .1)))
-    }
+        (held-take i row ss (omega (arith, l)) (h .1)) (sh, held-drop i row ss (omega (arith, l)) (h .1)));
+  }
 
 module _ {K R : Type 0} {b : K → K → Bool} (o : Order b) (m n : ℕ) (ys : List (Slot K R)) (lf : Leafed b m n ys) (k : K) (v : R) (x : Slot K R) (sh : Shows x (k, v)) (r j : ℕ) (bl : Belongs b m n ys k (r + suc j))
     (absent : holds b (pairs (leafAt m ys (r + suc j))) k ≡ false) (near : Nearest m n ys (r + suc j) r) (full : (p : ℕ) → r < p → p ≤ r + suc j → countAt m ys p ≡ m)
@@ -158,7 +158,7 @@ module _ {K R : Type 0} {b : K → K → Bool} (o : Order b) (m n : ℕ) (ys : L
   sunk =
       let z : suc r * m + 0 ≡ suc r * m = omega arith in
       let g : moved ≡ getD Q 0 moved =
-            read ∙ ap (λ u. getD ys u moved) (sym z) ∙ sym (getD-drop (suc r * m) ys 0 moved) ∙ ap (λ zs. getD zs 0 moved) after-l ∙ getD-append-left Q C moved 0 some-q in
+      read ∙ ap (λ u. getD ys u moved) (sym z) ∙ sym (getD-drop (suc r * m) ys 0 moved) ∙ ap (λ zs. getD zs 0 moved) after-l ∙ getD-append-left Q C moved 0 some-q in
       sink k v x moved sh (pairs Q) Q i (block .0) (long-row ∙ sym long-q) i-some i-in g
 
   l-held : Holds (pairs L ++ (sunk .first ∷ [])) L′
@@ -217,8 +217,8 @@ module _ {K R : Type 0} {b : K → K → Bool} (o : Order b) (m n : ℕ) (ys : L
   bf : Before b k (pairs A ++ (pairs L ++ take i (pairs Q)))
   bf =
       let e : pairs A ++ (pairs L ++ take i (pairs Q)) ≡ pairs (take (t * m) ys) ++ take a lrow =
-            ap (λ ps. pairs A ++ (pairs L ++ ps)) front ∙ ap (λ ps. pairs A ++ ps) (sym (append-assoc (pairs L) (pairs F) (take a lrow))) ∙ sym (append-assoc (pairs A) (pairs L ++ pairs F) (take a lrow))
-            ∙ ap (λ ps. ps ++ take a lrow) (sym (ap pairs before-t ∙ pairs-append A (L ++ F) ∙ ap (λ ps. pairs A ++ ps) (pairs-append L F))) in
+      ap (λ ps. pairs A ++ (pairs L ++ ps)) front ∙ ap (λ ps. pairs A ++ ps) (sym (append-assoc (pairs L) (pairs F) (take a lrow))) ∙ sym (append-assoc (pairs A) (pairs L ++ pairs F) (take a lrow))
+      ∙ ap (λ ps. ps ++ take a lrow) (sym (ap pairs before-t ∙ pairs-append A (L ++ F) ∙ ap (λ ps. pairs A ++ ps) (pairs-append L F))) in
       subst (Before b k) (sym e) (before-append b k (pairs (take (t * m) ys)) (take a lrow) (bl .earlier) (earlier-keys o m n ys lf k t bl absent))
 
   af : After b k (drop i (pairs Q) ++ pairs C)
@@ -234,15 +234,15 @@ module _ {K R : Type 0} {b : K → K → Bool} (o : Order b) (m n : ℕ) (ys : L
       ∙ same-head (pairs L) (((k, v) ∷ drop i (pairs Q)) ++ pairs C) (take i (pairs Q)) (drop i (pairs Q) ++ pairs C) (sunk .first) (sunk .begins)
       ∙ sym (ap (λ ps. keyOf (headOf (ps ++ pairs C))) pairs-s ∙ ap (λ ps. keyOf (headOf ps)) (append-assoc (pairs L ++ take i (pairs Q)) (drop i (pairs Q)) (pairs C)))
     where
-    pairs-s : pairs (L ++ Q) ≡ (pairs L ++ take i (pairs Q)) ++ drop i (pairs Q)
-    pairs-s = pairs-append L Q ∙ ap (λ ps. pairs L ++ ps) (sym (take-append-drop i (pairs Q))) ∙ sym (append-assoc (pairs L) (take i (pairs Q)) (drop i (pairs Q)))
+      pairs-s : pairs (L ++ Q) ≡ (pairs L ++ take i (pairs Q)) ++ drop i (pairs Q)
+      pairs-s = pairs-append L Q ∙ ap (λ ps. pairs L ++ ps) (sym (take-append-drop i (pairs Q))) ∙ sym (append-assoc (pairs L) (take i (pairs Q)) (drop i (pairs Q)))
 
   down-put : PutIn b m n ys k v t r (r + suc j) (A ++ ((L′ ++ Q′) ++ C))
   down-put =
       put-block o m n ys lf k v t (absent-whole o m n ys lf k t bl absent) r r (suc j) near (omega arith) (omega arith) A (L ++ Q) (L′ ++ Q′) C parts long-a
-        (omega (arith, length-append L Q, long-l, long-q, suc-times (suc j) m)) (omega (arith, length-append L′ Q′, long-l′, long-q′, suc-times (suc j) m))
-        (pairs L ++ take i (pairs Q)) (drop i (pairs Q))
-        (pairs-append L Q ∙ ap (λ ps. pairs L ++ ps) (sym (take-append-drop i (pairs Q))) ∙ sym (append-assoc (pairs L) (take i (pairs Q)) (drop i (pairs Q)))) pairs-t bf af packed-at count-at (λ _. heads)
+      (omega (arith, length-append L Q, long-l, long-q, suc-times (suc j) m)) (omega (arith, length-append L′ Q′, long-l′, long-q′, suc-times (suc j) m))
+      (pairs L ++ take i (pairs Q)) (drop i (pairs Q))
+      (pairs-append L Q ∙ ap (λ ps. pairs L ++ ps) (sym (take-append-drop i (pairs Q))) ∙ sym (append-assoc (pairs L) (take i (pairs Q)) (drop i (pairs Q)))) pairs-t bf af packed-at count-at (λ _. heads)
 
   -- the slots once the first pair above has gone to the free slot and those up to the place of the key have moved down
   pub down-slots : (e s last : ℕ) (part : List (Slot K R)) → e ≡ r * m + countAt m ys r → s ≡ suc r * m → last ≡ t * m + a → part ≡ drop 1 (take (last - s) (drop s (set ys e moved)) ++ (x ∷ []))
@@ -252,8 +252,8 @@ module _ {K R : Type 0} {b : K → K → Bool} (o : Order b) (m n : ℕ) (ys : L
       let la : length (A ++ L) ≡ suc r * m = omega (arith, length-append A L, long-a, long-l, suc-times r m) in
       let eq : e - length A ≡ length (pairs L) = omega (arith, ee, long-a) in
       let stored : set ys e moved ≡ (A ++ L′) ++ (Q ++ C) =
-            ap (λ zs. set zs e moved) whole ∙ set-append-left (A ++ L) (Q ++ C) e moved (omega (arith, la, ee, near .free, suc-times r m))
-            ∙ ap (λ zs. zs ++ (Q ++ C)) (set-append-right A L (length A) e moved refl (omega (arith, long-a, ee)) ∙ ap (λ u. A ++ set L u moved) eq) in
+      ap (λ zs. set zs e moved) whole ∙ set-append-left (A ++ L) (Q ++ C) e moved (omega (arith, la, ee, near .free, suc-times r m))
+      ∙ ap (λ zs. zs ++ (Q ++ C)) (set-append-right A L (length A) e moved refl (omega (arith, long-a, ee)) ∙ ap (λ u. A ++ set L u moved) eq) in
       let lm : length (A ++ L′) ≡ s = omega (arith, length-append A L′, long-a, long-l′, es, suc-times r m) in
       let head : take s (set ys e moved) ≡ A ++ L′ = ap (take s) stored ∙ take-at (A ++ L′) (Q ++ C) s lm in
       let tail : drop s (set ys e moved) ≡ Q ++ C = ap (drop s) stored ∙ drop-at (A ++ L′) (Q ++ C) s lm in
@@ -262,9 +262,9 @@ module _ {K R : Type 0} {b : K → K → Bool} (o : Order b) (m n : ℕ) (ys : L
       let shape : part ≡ drop 1 (take i Q ++ (x ∷ [])) = ep ∙ ap (λ u. drop 1 (take u (drop s (set ys e moved)) ++ (x ∷ []))) d ∙ ap (λ zs. drop 1 (take i zs ++ (x ∷ []))) tail ∙ ap (λ zs. drop 1 (zs ++ (x ∷ []))) (take-append-le i Q C iq) in
       let rest : drop (last - s) (drop s (set ys e moved)) ≡ drop i Q ++ C = ap (λ u. drop u (drop s (set ys e moved))) d ∙ ap (drop i) tail ∙ drop-append-le i Q C iq in
       let all : putMid s (last - s) (set ys e moved) part ≡ A ++ ((L′ ++ Q′) ++ C) =
-            ap (λ zs. zs ++ (part ++ drop (last - s) (drop s (set ys e moved)))) head
-            ∙ ap (λ zs. (A ++ L′) ++ (zs ++ drop (last - s) (drop s (set ys e moved)))) shape
-            ∙ ap (λ zs. (A ++ L′) ++ (drop 1 (take i Q ++ (x ∷ [])) ++ zs)) rest
-            ∙ ap (λ zs. (A ++ L′) ++ zs) (sym (append-assoc (drop 1 (take i Q ++ (x ∷ []))) (drop i Q) C))
-            ∙ append-assoc A L′ (Q′ ++ C) ∙ ap (λ zs. A ++ zs) (sym (append-assoc L′ Q′ C)) in
+      ap (λ zs. zs ++ (part ++ drop (last - s) (drop s (set ys e moved)))) head
+      ∙ ap (λ zs. (A ++ L′) ++ (zs ++ drop (last - s) (drop s (set ys e moved)))) shape
+      ∙ ap (λ zs. (A ++ L′) ++ (drop 1 (take i Q ++ (x ∷ [])) ++ zs)) rest
+      ∙ ap (λ zs. (A ++ L′) ++ zs) (sym (append-assoc (drop 1 (take i Q ++ (x ∷ []))) (drop i Q) C))
+      ∙ append-assoc A L′ (Q′ ++ C) ∙ ap (λ zs. A ++ zs) (sym (append-assoc L′ Q′ C)) in
       subst (PutIn b m n ys k v t r t) (sym all) down-put

@@ -80,8 +80,8 @@ module _ {K R : Type 0} {b : K → K → Bool} (o : Order b) (m n : ℕ) (ys : L
   row-is =
       pairs-append A (T ++ C) ∙ ap (λ ps. pairs A ++ ps) (pairs-append T C ∙ ap (λ ps. ps ++ pairs C) et ∙ append-assoc P ((k, v) ∷ N) (pairs C)) ∙ sym (append-assoc (pairs A) P ((k, v) ∷ (N ++ pairs C)))
       ∙ sym (ap (λ ps. inserted b ps k v)
-          (ap pairs parts ∙ pairs-append A (S ++ C) ∙ ap (λ ps. pairs A ++ ps) (pairs-append S C ∙ ap (λ ps. ps ++ pairs C) es ∙ append-assoc P N (pairs C)) ∙ sym (append-assoc (pairs A) P (N ++ pairs C)))
-        ∙ inserted-between o k (pairs A ++ P) (N ++ pairs C) v bf af)
+      (ap pairs parts ∙ pairs-append A (S ++ C) ∙ ap (λ ps. pairs A ++ ps) (pairs-append S C ∙ ap (λ ps. ps ++ pairs C) es ∙ append-assoc P N (pairs C)) ∙ sym (append-assoc (pairs A) P (N ++ pairs C)))
+      ∙ inserted-between o k (pairs A ++ P) (N ++ pairs C) v bf af)
 
   same-leaf : (q : ℕ) → leafAt m zs q ≡ leafAt m (A ++ (S ++ C)) q → leafAt m zs q ≡ leafAt m ys q
   same-leaf q e = e ∙ ap (λ (us : List (Slot K R)). leafAt m us q) (sym parts)
@@ -93,27 +93,27 @@ module _ {K R : Type 0} {b : K → K → Bool} (o : Order b) (m n : ℕ) (ys : L
 
   pub put-block : PutIn b m n ys k v t lo (lo + j) zs
   put-block = record {
-      r = r;
-      lands = near;
-      low-is = el;
-      high-is = eh;
-      leafed = record {
-        long = long-is;
-        packed = λ p l. pick (λ q. Packed (leafAt m zs q)) lo j n p l
+    r = r;
+    lands = near;
+    low-is = el;
+    high-is = eh;
+    leafed = record {
+      long = long-is;
+      packed = λ p l. pick (λ q. Packed (leafAt m zs q)) lo j n p l
           (λ q l q<n. subst Packed (sym (same-leaf q (leaf-before m n lo j A S T C la ls lt q l))) (lf .packed q q<n))
           (λ i l. subst Packed (sym (leaf-inside m n lo j A S T C la ls lt i l)) (packed i l))
           (λ q l q<n. subst Packed (sym (same-leaf q (leaf-after m n lo j A S T C la ls lt q l))) (lf .packed q q<n));
-        ascending = subst (Ascending b) (sym row-is) (ascending-inserted o (pairs ys) k v absent (lf .ascending))
-      };
-      row = row-is;
-      counts = λ p l. pick (λ q. countAt m zs q ≡ countAt m ys q + cond (eqb q r) 1 0) lo j n p l
+      ascending = subst (Ascending b) (sym row-is) (ascending-inserted o (pairs ys) k v absent (lf .ascending));
+    };
+    row = row-is;
+    counts = λ p l. pick (λ q. countAt m zs q ≡ countAt m ys q + cond (eqb q r) 1 0) lo j n p l
         (λ q l q<n. outside q (leaf-before m n lo j A S T C la ls lt q l) (λ e. omega (arith, e, l, el, eh)))
         (λ i l. ap (λ ss. length (pairs ss)) (leaf-inside m n lo j A S T C la ls lt i l) ∙ counts i l)
         (λ q l q<n. outside q (leaf-after m n lo j A S T C la ls lt q l) (λ e. omega (arith, e, l, el, eh)));
-      keys-low = λ p p0 l.
+    keys-low = λ p p0 l.
         first-key (drop (p * m) zs) ∙ ap (λ ss. keyOf (headOf (pairs ss))) (drop-before m n lo j A S T C la ls lt (T ++ C) p l)
         ∙ ap (λ ps. keyOf (headOf ps)) (split-pairs p T)
         ∙ head-behind (pairs (drop (p * m) A)) (pairs T ++ pairs C) (pairs S ++ pairs C) (heads (omega (arith, p0, l)))
         ∙ sym (first-key (drop (p * m) ys) ∙ ap (λ us. keyOf (headOf (pairs (drop (p * m) us)))) parts ∙ ap (λ ss. keyOf (headOf (pairs ss))) (drop-before m n lo j A S T C la ls lt (S ++ C) p l) ∙ ap (λ ps. keyOf (headOf ps)) (split-pairs p S));
-      keys-high = λ p l. ap firstKey (drop-after m n lo j A S T C la ls lt p l ∙ ap (λ us. drop (p * m) us) (sym parts))
-    }
+    keys-high = λ p l. ap firstKey (drop-after m n lo j A S T C la ls lt p l ∙ ap (λ us. drop (p * m) us) (sym parts));
+  }

@@ -25,6 +25,10 @@ use Rattle.leaf_rows.proofs.Cuts.{before-append, after-append, ascending-parts
 use Rattle.leaf_rows.proofs.Dealt.{dealt-packed, dealt-full, dealt-last}
 use Rattle.leaf_rows.proofs.Landing.{stretches, head-front, rows-at, holds-at, put-block}
 
+module _ {K R : Type 0} {b : K → K → Bool} (o : Order b) (m n : ℕ) (ys : List (Slot K R)) (lf : Leafed b m n ys) (k : K) (t : ℕ) (bl : Belongs b m n ys k t) where
+  pub row-ascends : Ascending b (pairs (leafAt m ys t))
+  row-ascends = ascending-parts b (pairs (leafAt m ys t)) (pairs (drop (suc t * m) ys)) (ascending-parts b (pairs (take (t * m) ys)) (pairs (leafAt m ys t) ++ pairs (drop (suc t * m) ys)) (subst (Ascending b) (rows-at o m n ys lf k t bl) (lf .ascending)) .1) .0
+
 module _ {K R : Type 0} {b : K → K → Bool} (o : Order b) (m n : ℕ) (ys : List (Slot K R)) (lf : Leafed b m n ys) (k : K) (t : ℕ) (bl : Belongs b m n ys k t) (absent : holds b (pairs (leafAt m ys t)) k ≡ false) where
   abbrev row : List (K × R)
   row = pairs (leafAt m ys t)
@@ -35,14 +39,11 @@ module _ {K R : Type 0} {b : K → K → Bool} (o : Order b) (m n : ℕ) (ys : L
   pub place-within : a ≤ length row
   place-within = lead-within Lower b k row
 
-  row-ascends : Ascending b row
-  row-ascends = ascending-parts b row (pairs (drop (suc t * m) ys)) (ascending-parts b (pairs (take (t * m) ys)) (row ++ pairs (drop (suc t * m) ys)) (subst (Ascending b) (rows-at o m n ys lf k t bl) (lf .ascending)) .1) .0
-
   pub earlier-keys : Before b k (take a row)
   earlier-keys = before-place o k row
 
   pub later-keys : After b k (drop a row)
-  later-keys = after-place o k row row-ascends absent
+  later-keys = after-place o k row (row-ascends o m n ys lf k t bl) absent
 
   pub some-earlier : 0 < t → 0 < a
   some-earlier p = place-some o k row (bl .headed p) absent
@@ -140,23 +141,23 @@ module _ {K R : Type 0} {b : K → K → Bool} (o : Order b) (m n : ℕ) (ys : L
   count-at : (u : ℕ) → u ≤ j → countAt m T u ≡ countAt m ys (t + u) + cond (eqb (t + u) (t + j)) 1 0
   count-at u l = ⊎-elim
       (λ lt. let z : cond {A = ℕ} (eqb (t + u) (t + j)) 1 0 ≡ 0 = ap (λ w. cond {A = ℕ} w 1 0) (ne-eqb (t + u) (t + j) (λ e. omega (arith, e, lt))) in
-        omega (arith, z, dealt-full m (take i (pairs S) ++ ((k, v) ∷ drop i (pairs S))) T held u j (c + 1) new-length lt, full (t + u) (omega arith) (omega (arith, lt))))
+      omega (arith, z, dealt-full m (take i (pairs S) ++ ((k, v) ∷ drop i (pairs S))) T held u j (c + 1) new-length lt, full (t + u) (omega arith) (omega (arith, lt))))
       (λ ge. let e : u ≡ j = omega (arith, ge, l) in
-        let z : cond {A = ℕ} (eqb (t + u) (t + j)) 1 0 ≡ 1 = ap (λ w. cond {A = ℕ} w 1 0) (eq-eqb (t + u) (t + j) (ap (λ w. t + w) e)) in
-        let nl : length (take i (pairs S) ++ ((k, v) ∷ drop i (pairs S))) ≡ u * m + (c + 1) = new-length ∙ ap (λ w. w * m + (c + 1)) (sym e) in
-        let old : countAt m ys (t + u) ≡ c = ap (λ w. countAt m ys (t + w)) e in
-        omega (arith, z, old, dealt-last m (take i (pairs S) ++ ((k, v) ∷ drop i (pairs S))) T held u (c + 1) nl (omega (arith, near .free))))
+      let z : cond {A = ℕ} (eqb (t + u) (t + j)) 1 0 ≡ 1 = ap (λ w. cond {A = ℕ} w 1 0) (eq-eqb (t + u) (t + j) (ap (λ w. t + w) e)) in
+      let nl : length (take i (pairs S) ++ ((k, v) ∷ drop i (pairs S))) ≡ u * m + (c + 1) = new-length ∙ ap (λ w. w * m + (c + 1)) (sym e) in
+      let old : countAt m ys (t + u) ≡ c = ap (λ w. countAt m ys (t + w)) e in
+      omega (arith, z, old, dealt-last m (take i (pairs S) ++ ((k, v) ∷ drop i (pairs S))) T held u (c + 1) nl (omega (arith, near .free))))
       (cases-lt u j)
 
   up-put : PutIn b m n ys k v t t (t + j) (A ++ (T ++ C))
   up-put =
       put-block o m n ys lf k v t (absent-whole o m n ys lf k t bl absent) (t + j) t j near (omega arith) (omega arith) A S T C (stretches m t j ys) long-a long-s long-t
-        (take i (pairs S)) (drop i (pairs S)) (sym (take-append-drop i (pairs S))) pairs-t
-        (subst (λ ps. Before b k (pairs A ++ ps)) (sym front) (before-append b k (pairs A) (take i lrow) (bl .earlier) (earlier-keys o m n ys lf k t bl absent)))
-        (subst (After b k) (sym back) (after-append b k (drop i lrow) (pairs (drop (suc t * m) ys)) (later-keys o m n ys lf k t bl absent) (bl .later)))
-        (λ u l. dealt-packed m (take i (pairs S) ++ ((k, v) ∷ drop i (pairs S))) T held u) count-at
-        (λ p. ap (λ ps. keyOf (headOf (ps ++ pairs C))) pairs-t ∙ ap (λ ps. keyOf (headOf ps)) (append-assoc (take i (pairs S)) ((k, v) ∷ drop i (pairs S)) (pairs C))
-          ∙ head-front i (pairs S) (((k, v) ∷ drop i (pairs S)) ++ pairs C) (pairs C) (some-earlier o m n ys lf k t bl absent p) i-len)
+      (take i (pairs S)) (drop i (pairs S)) (sym (take-append-drop i (pairs S))) pairs-t
+      (subst (λ ps. Before b k (pairs A ++ ps)) (sym front) (before-append b k (pairs A) (take i lrow) (bl .earlier) (earlier-keys o m n ys lf k t bl absent)))
+      (subst (After b k) (sym back) (after-append b k (drop i lrow) (pairs (drop (suc t * m) ys)) (later-keys o m n ys lf k t bl absent) (bl .later)))
+      (λ u l. dealt-packed m (take i (pairs S) ++ ((k, v) ∷ drop i (pairs S))) T held u) count-at
+      (λ p. ap (λ ps. keyOf (headOf (ps ++ pairs C))) pairs-t ∙ ap (λ ps. keyOf (headOf ps)) (append-assoc (take i (pairs S)) ((k, v) ∷ drop i (pairs S)) (pairs C))
+      ∙ head-front i (pairs S) (((k, v) ∷ drop i (pairs S)) ++ pairs C) (pairs C) (some-earlier o m n ys lf k t bl absent p) i-len)
 
   -- the slots that a push up from the place of the key to the free slot leaves
   pub up-slots : (from end : ℕ) (part : List (Slot K R)) → from ≡ t * m + i → end ≡ (t + j) * m + c + 1 → part ≡ take (length (take (end - from) (drop from ys))) (x ∷ take (end - from) (drop from ys))
@@ -167,28 +168,28 @@ module _ {K R : Type 0} {b : K → K → Bool} (o : Order b) (m n : ℕ) (ys : L
       let lo : length ys ≡ n * m = lf .long in
       let bound : from + suc d ≤ length ys = omega (arith, lo, fits, suc-times (t + j) m, add-mul t j m, ef, block .1, i-len, near .free) in
       let shape : part ≡ x ∷ take d (drop i S) =
-            ep ∙ ap (λ u. take (length (take u (drop from ys))) (x ∷ take u (drop from ys))) sd ∙ pushed-up from d x ys bound
-            ∙ ap (λ zs. x ∷ take d zs) (ap (λ u. drop u ys) ef ∙ sym (drop-drop i (t * m) ys))
-            ∙ ap (λ zs. x ∷ zs) (inner d (omega (arith, room))) in
+      ep ∙ ap (λ u. take (length (take u (drop from ys))) (x ∷ take u (drop from ys))) sd ∙ pushed-up from d x ys bound
+      ∙ ap (λ zs. x ∷ take d zs) (ap (λ u. drop u ys) ef ∙ sym (drop-drop i (t * m) ys))
+      ∙ ap (λ zs. x ∷ zs) (inner d (omega (arith, room))) in
       let head : take from ys ≡ A ++ take i S = ap (λ u. take u ys) ef ∙ take-add (t * m) i ys ∙ ap (λ zs. A ++ zs) (sym (take-take i (suc j * m) (drop (t * m) ys) (omega (arith, i-len, room)))) in
       let te : from + (end - from) ≡ t * m + (length (pairs S) + 1) = omega (arith, sd, ef, i-len) in
       let tail : drop (end - from) (drop from ys) ≡ drop (length (pairs S) + 1) S ++ C =
-            drop-drop (end - from) from ys ∙ ap (λ u. drop u ys) te ∙ sym (drop-drop (length (pairs S) + 1) (t * m) ys)
-            ∙ ap (drop (length (pairs S) + 1)) after-a ∙ drop-append-le (length (pairs S) + 1) S C (omega (arith, room, long-s)) in
+      drop-drop (end - from) from ys ∙ ap (λ u. drop u ys) te ∙ sym (drop-drop (length (pairs S) + 1) (t * m) ys)
+      ∙ ap (drop (length (pairs S) + 1)) after-a ∙ drop-append-le (length (pairs S) + 1) S C (omega (arith, room, long-s)) in
       let all : putMid from (end - from) ys part ≡ A ++ (T ++ C) =
-            ap (λ zs. zs ++ (part ++ drop (end - from) (drop from ys))) head
-            ∙ ap (λ zs. (A ++ take i S) ++ (zs ++ drop (end - from) (drop from ys))) shape
-            ∙ ap (λ zs. (A ++ take i S) ++ ((x ∷ take d (drop i S)) ++ zs)) tail
-            ∙ append-assoc A (take i S) ((x ∷ take d (drop i S)) ++ (drop (length (pairs S) + 1) S ++ C))
-            ∙ ap (λ zs. A ++ zs) (ap (λ zs. take i S ++ zs) (sym (append-assoc (x ∷ take d (drop i S)) (drop (length (pairs S) + 1) S) C)) ∙ sym (append-assoc (take i S) ((x ∷ take d (drop i S)) ++ drop (length (pairs S) + 1) S) C)) in
+      ap (λ zs. zs ++ (part ++ drop (end - from) (drop from ys))) head
+      ∙ ap (λ zs. (A ++ take i S) ++ (zs ++ drop (end - from) (drop from ys))) shape
+      ∙ ap (λ zs. (A ++ take i S) ++ ((x ∷ take d (drop i S)) ++ zs)) tail
+      ∙ append-assoc A (take i S) ((x ∷ take d (drop i S)) ++ (drop (length (pairs S) + 1) S ++ C))
+      ∙ ap (λ zs. A ++ zs) (ap (λ zs. take i S ++ zs) (sym (append-assoc (x ∷ take d (drop i S)) (drop (length (pairs S) + 1) S) C)) ∙ sym (append-assoc (take i S) ((x ∷ take d (drop i S)) ++ drop (length (pairs S) + 1) S) C)) in
       subst (PutIn b m n ys k v t t (t + j)) (sym all) up-put
     where
-    after-a : drop (t * m) ys ≡ S ++ C
-    after-a =
-        let q : t * m + suc j * m ≡ suc (t + j) * m = omega (arith, suc-times j m, suc-times (t + j) m, add-mul t j m) in
-        sym (take-append-drop (suc j * m) (drop (t * m) ys)) ∙ ap (λ zs. S ++ zs) (drop-drop (suc j * m) (t * m) ys ∙ ap (λ u. drop u ys) q)
+      after-a : drop (t * m) ys ≡ S ++ C
+      after-a =
+          let q : t * m + suc j * m ≡ suc (t + j) * m = omega (arith, suc-times j m, suc-times (t + j) m, add-mul t j m) in
+          sym (take-append-drop (suc j * m) (drop (t * m) ys)) ∙ ap (λ zs. S ++ zs) (drop-drop (suc j * m) (t * m) ys ∙ ap (λ u. drop u ys) q)
 
-    inner : (d : ℕ) → i + d ≤ suc j * m → take d (drop i (drop (t * m) ys)) ≡ take d (drop i S)
-    inner d l =
-        let q : i + d - i ≡ d = omega arith in
-        ap (λ u. take u (drop i (drop (t * m) ys))) (sym q) ∙ part-front i (i + d) (suc j * m) (drop (t * m) ys) (omega arith) l ∙ ap (λ u. take u (drop i S)) q
+      inner : (d : ℕ) → i + d ≤ suc j * m → take d (drop i (drop (t * m) ys)) ≡ take d (drop i S)
+      inner d l =
+          let q : i + d - i ≡ d = omega arith in
+          ap (λ u. take u (drop i (drop (t * m) ys))) (sym q) ∙ part-front i (i + d) (suc j * m) (drop (t * m) ys) (omega arith) l ∙ ap (λ u. take u (drop i S)) q
