@@ -27,20 +27,12 @@ use Rattle.ordered.proofs.Rows.{absent-there, length-inserted, length-updated, 
 use Rattle.slot_rows.specs.declared.halving.Bound.{Bound}
 use Rattle.slot_rows.specs.declared.halving.Bound.the-variants.{Lower}
 use Rattle.slot_rows.specs.Ranks.{keyBelow, below, lead, Falling, there, located}
-use Rattle.slot_rows.proofs.Held.{headOf, pairs-blank, pairs-held, length-held, held-take, held-at, head-past, lead-held, lead-within, first-lead, falling-held, there-held, inserted-at, found-there, Found, at}
+use Rattle.slot_rows.proofs.Held.{headOf, pairs-blank, pairs-held, length-held, held-take, held-at, head-past, lead-held, lead-within, first-lead, falling-held, there-held, inserted-at, found-there, found-in, missing-in, Found, at}
 use Rattle.straight_row.specs.declared.row.StraightRow.{StraightRow}
 use Rattle.straight_row.specs.Index.{rowIn, roomIn, Keeps}
 use Rattle.straight_row.specs.Straight.{counted, rowOf, Straight, Leaves, Edited}
-use Rattle.straight_row.proofs.Edits.{spliced, spliced-take, spliced-drop, spliced-long, length-cut, part-front, pushed-up, pushed-down}
-use Rattle.straight_row.proofs.Rowed.{put-in, put-over, taken-out}
-
-inside-ok : (t : Bool) (n m : ℕ) → Ok n ≡ cond t (Ok m) (Err m) → (t ≡ true) × (n ≡ m)
-inside-ok true n m e = (refl, cc)
-inside-ok false n m e = let z : _≡_ {A = ℕ} 0 1 = cc in absurd (omega arith)
-
-inside-err : (t : Bool) (n m : ℕ) → Err n ≡ cond t (Ok m) (Err m) → (t ≡ false) × (n ≡ m)
-inside-err true n m e = let z : _≡_ {A = ℕ} 0 1 = cc in absurd (omega arith)
-inside-err false n m e = (refl, cc)
+use Rattle.slot_rows.proofs.Splices.{spliced, spliced-take, spliced-drop, spliced-long, length-cut, part-front, pushed-up, pushed-down}
+use Rattle.slot_rows.proofs.Parts.{put-in, put-over, taken-out}
 
 second-inside : {K R : Type 0} (x y : K) (u v : R) → _≡_ {A = Option (K × R)} (Some (x, u)) (Some (y, v)) → u ≡ v
 second-inside {K} {R} x y u v e = let q : _≡_ {A = K × R} (x, u) (y, v) = cc in ap (λ p. p .1) q
@@ -84,17 +76,11 @@ module _ {K R : Type 0} {b : K → K → Bool} (ss : List (Slot K R)) (count : �
       pub first-read : (x : Slot K R) → n < length part → x ≡ getD part n x → Some (x .key, x .value) ≡ first (λ q. not (keyBelow bound b k q)) row
       first-read x l g = sym (first-lead bound b k row ∙ ap (λ m. headOf (drop m row)) (sym ranked) ∙ held-at n row part x (omega (arith, l, part-long part e)) (part-held part e) g .1)
 
-    looked : (r : Result ℕ ℕ) → (Falling (below Lower b k) part → r ≡ located b k part) → r ≡ cond (holds b row k) (Ok (at o k row)) (Err (at o k row))
-    looked r is =
-        is (falling-held o k Lower row part (st .ascending) (part-held part e))
-        ∙ ap (λ t. cond t (Ok (lead (below Lower b k) part)) (Err (lead (below Lower b k) part))) (there-held o k row part (st .ascending) (part-held part e))
-        ∙ ap (λ m. cond (holds b row k) (Ok m) (Err m)) (lead-held Lower b k row part (part-held part e))
-
     pub found : (n : ℕ) → (Falling (below Lower b k) part → Ok n ≡ located b k part) → (holds b row k ≡ true) × (n ≡ at o k row)
-    found n is = inside-ok (holds b row k) n (at o k row) (looked (Ok n) is)
+    found n is = found-in o k row part (st .ascending) (part-held part e) n is
 
     pub missing : (n : ℕ) → (Falling (below Lower b k) part → Err n ≡ located b k part) → (holds b row k ≡ false) × (n ≡ at o k row)
-    missing n is = inside-err (holds b row k) n (at o k row) (looked (Err n) is)
+    missing n is = missing-in o k row part (st .ascending) (part-held part e) n is
 
     pub value-found : (n : ℕ) (x : Slot K R) → (Falling (below Lower b k) part → Ok n ≡ located b k part) → x ≡ getD part n x → Some (x .value) ≡ lookup b row k
     value-found n x is g =

@@ -2,7 +2,7 @@ use mathlib.Core.Path.{_≡_, ap, _∙_}
 use Prim.Native.Nat.{min, _-_}
 use native.Mathlib.Omega.{arith}
 use lib.ListN.{length, take}
-use Rattle.straight_row.proofs.Edits.{take-least}
+use Rattle.slot_rows.proofs.Splices.{take-least}
 use Rattle.straight_row.proofs.edit.held.Needs as need
 
 pub returns : need.returns

@@ -8,9 +8,8 @@ use lib.ListN.{length, getD, take, drop}
 use Rattle.std.proofs.shelf.Lists.{length-take-le, length-take, length-drop, take-take, take-all, drop-all, drop-drop, append-nil, append-assoc}
 use Rattle.ordered.specs.declared.slot.Slot.{Slot}
 use Rattle.ordered.specs.Slots.{countable, pairs, Blank, Shows, Holds}
 use Rattle.slot_rows.proofs.Held.{pairs-held, length-held, blank-drop, held-take, held-drop, held-append}
-use Rattle.straight_row.specs.Straight.{counted, rowOf, Straight, Leaves}
-use Rattle.straight_row.proofs.Edits.{spliced, pushed-up, pushed-down}
+use Rattle.slot_rows.proofs.Splices.{spliced, pushed-up, pushed-down}
 
 module _ {K R : Type 0} (row : List (K × R)) (xs : List (Slot K R)) (h : Holds row xs) (a : ℕ) where
   within : length row ≤ length xs

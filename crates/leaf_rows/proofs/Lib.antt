@@ -1,0 +1,9 @@
+pub mod Blocks
+pub mod Cuts
+pub mod Dealt
+pub mod Downward
+pub mod Landing
+pub mod Last
+pub mod Near
+pub mod Settled
+pub mod Upward
