@@ -97,15 +97,6 @@ pub in-suffix : {p : Size × ℕ} {row ps : List (Size × ℕ)} → Suffix row (
 in-suffix {p} {ps = ps} whole asc = cond-true (same sizeBefore (p .0) (p .0)) (Some (p .1)) (lookup sizeBefore ps (p .0)) (same-self size-order (p .0))
 in-suffix {p} (later {p = x} {row = row} s) asc = cond-false (same sizeBefore (x .0) (p .0)) (Some (x .1)) (lookup sizeBefore row (p .0)) (less-apart size-order (x .0) (p .0) (before-suffix (x .0) s (asc .0))) ∙ in-suffix s (asc .1)
 
--- what is shown is in the row and in range
-pub shown-in : (s : Species) (e : ℕ) (row : List (Size × ℕ)) (rest : List (Size × ℕ)) → Suffix row rest → Ascending sizeBefore row → (x : Log) → Among x (runs s e rest) → (p : Size × ℕ) × (x ≡ toLog p) × (lookup sizeBefore row (p .0) ≡ Some (p .1)) × (inRange s e (p .0) ≡ true)
-shown-in s e row [] suf asc x a = absurd a
-shown-in s e row (p ∷ ps) suf asc x a = go (inRange s e (p .0)) refl a (shown-in s e row ps (suffix-tail suf) asc x)
-  where
-    go : (t : Bool) → inRange s e (p .0) ≡ t → Among x (cond t (toLog p ∷ runs s e ps) []) → (Among x (runs s e ps) → (p : Size × ℕ) × (x ≡ toLog p) × (lookup sizeBefore row (p .0) ≡ Some (p .1)) × (inRange s e (p .0) ≡ true)) → (p : Size × ℕ) × (x ≡ toLog p) × (lookup sizeBefore row (p .0) ≡ Some (p .1)) × (inRange s e (p .0) ≡ true)
-    go true te a ih = ⊎-elim (λ i. (p, i, in-suffix suf asc, te)) ih a
-    go false te a ih = absurd a
-
 later-runs : (s : Species) (e : ℕ) (p : Size × ℕ) (ps : List (Size × ℕ)) → After sizeBefore (p .0) ps → Later (p .0 .tag) (toLog p .rest .body) (runs s e ps)
 later-runs s e p [] after = tt
 later-runs s e p (q ∷ qs) after = elim (inRange s e (q .0)) as (λ t. Later (p .0 .tag) (toLog p .rest .body) (cond t (toLog q ∷ runs s e qs) [])) [ true ↦ (after .0, later-runs s e p qs (after .1)) | false ↦ tt ]
@@ -295,40 +286,44 @@ head-cases s e (p ∷ ps) x h = go (inRange s e (p .0)) h
     go false h = absurd (empty h)
 
 -- one log more is written
-pub fill-step : (s : Species) (e : ℕ) (row rest : List (Size × ℕ)) (xs page₀ page : List Log) (n : ℕ) (x : Log) (key : Size) (next : Option Log)
+pub fill-step : (s : Species) (e : ℕ) (row rest : List (Size × ℕ)) (xs page₀ page : List Log) (n : ℕ) (x : Log) (key : Size) (was next : Option Log) (got : Option (Size × ℕ))
     → Suffix row rest → Ascending sizeBefore row
-    → Some x ≡ headOf (runs s e rest)
+    → was ≡ Some x → was ≡ headOf (runs s e rest)
     → xs ≡ take n page ++ runs s e rest
     → drop n page ≡ drop n page₀
     → n < length page
     → key ≡ sizeOf (x .tag) (x .rest .body)
-    → next ≡ nextOf s e (above sizeBefore row key)
+    → next ≡ nextOf s e got → got ≡ above sizeBefore row key
     → (rest′ : List (Size × ℕ)) × Suffix row rest′ × (next ≡ headOf (runs s e rest′)) × (xs ≡ take (n + 1) (set page n x) ++ runs s e rest′) × (drop (n + 1) (set page n x) ≡ drop (n + 1) page₀)
-fill-step s e row rest xs page₀ page n x key next suf asc hx ex ed lt ke ne =
-    let c = head-cases s e rest x hx in
+fill-step s e row rest xs page₀ page n x key was next got suf asc wx hx ex ed lt ke ne ge =
+    let c = head-cases s e rest x (sym wx ∙ hx) in
     let p = c .0 in
     let ps = c .1 in
     let suf′ : Suffix row (p ∷ ps) = subst (Suffix row) (c .2) suf in
     let kp : key ≡ p .0 = ke ∙ ap (λ (z : Log). sizeOf (z .tag) (z .rest .body)) (c .3) in (
       ps,
       suffix-tail suf′,
-      ne ∙ ap (λ k. nextOf s e (above sizeBefore row k)) kp ∙ ap (nextOf s e) (past-suffix suf′ asc) ∙ head-runs s e ps,
+      ne ∙ ap (nextOf s e) ge ∙ ap (λ k. nextOf s e (above sizeBefore row k)) kp ∙ ap (nextOf s e) (past-suffix suf′ asc) ∙ head-runs s e ps,
       ex ∙ ap (λ z. take n page ++ z) (c .4 ∙ ap (λ z. z ∷ runs s e ps) (sym (c .3))) ∙ sym (append-assoc (take n page) (x ∷ []) (runs s e ps)) ∙ ap (λ z. z ++ runs s e ps) (sym (take-more-set page n x lt)),
       drop-set-lt (n + 1) page n x (omega arith) ∙ sym (drop-drop 1 n page) ∙ ap (drop 1) ed ∙ drop-drop 1 n page₀,
     )
 
-pub runs-none : (s : Species) (e : ℕ) (rest : List (Size × ℕ)) → None ≡ headOf (runs s e rest) → length (runs s e rest) ≡ 0
-runs-none s e rest h = go (runs s e rest) h
+-- what is left to show when there is no next log, or as told by whether there is one
+pub left-none : (next : Option Log) (ys : List Log) → next ≡ None → next ≡ headOf ys → length ys ≡ 0
+left-none next [] n h = refl
+left-none next (y ∷ ys) n h = let z : _≡_ {A = ℕ} 0 1 = cc in omega arith
+
+pub left-none-test : (next : Option Log) (ys : List Log) → next ≡ None → next ≡ headOf ys → false ≡ ltb 0 (length ys)
+left-none-test next ys n h = ap (ltb 0) (sym (left-none next ys n h))
+
+pub left-test : (m : Bool) (next : Option Log) (ys : List Log) → m ≡ isSome next → next ≡ headOf ys → m ≡ ltb 0 (length ys)
+left-test m next ys e h = e ∙ ap isSome h ∙ some-head ys
   where
-    go : (ys : List Log) → None ≡ headOf ys → length ys ≡ 0
-    go [] h = refl
-    go (y ∷ ys) h = let z : _≡_ {A = ℕ} 0 1 = cc in omega arith
+    some-head : (ys : List Log) → isSome (headOf ys) ≡ ltb 0 (length ys)
+    some-head [] = refl
+    some-head (y ∷ ys) = sym (lt-ltb 0 (suc (length ys)) (omega arith))
 
-pub some-runs : (ys : List Log) → isSome (headOf ys) ≡ ltb 0 (length ys)
-some-runs [] = refl
-some-runs (y ∷ ys) = sym (lt-ltb 0 (suc (length ys)) (omega arith))
-
-pub fill-start : (s : Species) (d e : ℕ) (row : List (Size × ℕ)) (page : List Log) (next : Option Log) → next ≡ nextOf s e (atOrAbove sizeBefore row (start s d))
+pub fill-start : (s : Species) (d e : ℕ) (row : List (Size × ℕ)) (page : List Log) (next : Option Log) (got : Option (Size × ℕ)) → next ≡ nextOf s e got → got ≡ atOrAbove sizeBefore row (start s d)
     → (rest : List (Size × ℕ)) × Suffix row rest × (next ≡ headOf (runs s e rest)) × (range row s d e ≡ take 0 page ++ runs s e rest) × (drop 0 page ≡ drop 0 page)
-fill-start s d e row page next ne =
-    (dropTo (λ q. not (sizeBefore q (start s d))) row, drop-suffix _ row, ne ∙ ap (nextOf s e) (first-head _ row) ∙ head-runs s e _, refl, refl)
+fill-start s d e row page next got ne ge =
+    (dropTo (λ q. not (sizeBefore q (start s d))) row, drop-suffix _ row, ne ∙ ap (nextOf s e) (ge ∙ first-head _ row) ∙ head-runs s e _, refl, refl)

@@ -38,9 +38,9 @@ use Rattle.log_yard.proofs.Steps.{rest-is, at-cases}
 use Rattle.ordered.proofs.Done.{put-done}
 
 -- the walk starts at the first pair
-pub walk-start : (row : List (Tag × Rest)) → atOrAbove tagBefore row (record { 0 = 0 }) ≡ headOf row
-walk-start [] = refl
-walk-start (p ∷ ps) = ap (λ t. cond (not t) (Some p) (atOrAbove tagBefore ps (record { 0 = 0 }))) (le-ltb (p .0 .0) 0 (omega arith))
+pub walk-start : (row : List (Tag × Rest)) (o : Option (Tag × Rest)) → o ≡ atOrAbove tagBefore row (record { 0 = 0 }) → o ≡ headOf row
+walk-start [] o e = e
+walk-start (p ∷ ps) o e = e ∙ ap (λ t. cond (not t) (Some p) (atOrAbove tagBefore ps (record { 0 = 0 }))) (le-ltb (p .0 .0) 0 (omega arith))
 
 pub head-is : (rest : List (Tag × Rest)) (p : Tag × Rest) → Some p ≡ headOf rest → (ps : List (Tag × Rest)) × (rest ≡ p ∷ ps)
 head-is [] p e = absurd (empty e)
@@ -115,11 +115,11 @@ pub record Next (row pre : List (Tag × Rest)) (p : Tag × Rest) : Type 0 where
   pub split : Ascending tagBefore (pre ++ (p ∷ left))
   pub whole : row ≡ pre ++ (p ∷ left)
   pub on : row ≡ (pre ++ (p ∷ [])) ++ left
-  pub head : above tagBefore row (p .0) ≡ headOf left
+  pub head : (o : Option (Tag × Rest)) → o ≡ above tagBefore row (p .0) → o ≡ headOf left
 
-pub walk-next : (row pre rest : List (Tag × Rest)) (p : Tag × Rest) → Ascending tagBefore row → row ≡ pre ++ rest → Some p ≡ headOf rest → Next row pre p
-walk-next row pre rest p asc e h =
-    let f = head-is rest p h in
+pub walk-next : (row pre rest : List (Tag × Rest)) (p : Tag × Rest) (o : Option (Tag × Rest)) → Ascending tagBefore row → row ≡ pre ++ rest → o ≡ Some p → o ≡ headOf rest → Next row pre p
+walk-next row pre rest p o asc e is h =
+    let f = head-is rest p (sym is ∙ h) in
     let w : row ≡ pre ++ (p ∷ f .0) = e ∙ ap (λ z. pre ++ z) (f .1) in
     let a = subst (Ascending tagBefore) w asc in
     record {
@@ -127,18 +127,18 @@ walk-next row pre rest p asc e h =
       split = a;
       whole = w;
       on = w ∙ sym (append-assoc pre (p ∷ []) (f .0));
-      head = ap (λ z. above tagBefore z (p .0)) w ∙ past-mid tag-order p (f .0) pre a;
+      head = λ _ b. b ∙ ap (λ z. above tagBefore z (p .0)) w ∙ past-mid tag-order p (f .0) pre a;
     }
 
 pub walk-done : (row pre rest : List (Tag × Rest)) → row ≡ pre ++ rest → length row ≤ length pre → pre ≡ row
 walk-done row pre [] e h = sym (append-nil pre) ∙ sym e
 walk-done row pre (p ∷ ps) e h = absurd (omega (arith, h, ap length e, length-append pre (p ∷ ps)))
 
-pub walk-none : (row pre rest : List (Tag × Rest)) → row ≡ pre ++ rest → None ≡ headOf rest → pre ≡ row
-walk-none row pre rest e h = sym (append-nil pre) ∙ ap (λ z. pre ++ z) (sym (head-none rest h)) ∙ sym e
+pub walk-none : (row pre rest : List (Tag × Rest)) (o : Option (Tag × Rest)) → row ≡ pre ++ rest → o ≡ None → o ≡ headOf rest → pre ≡ row
+walk-none row pre rest o e n h = sym (append-nil pre) ∙ ap (λ z. pre ++ z) (sym (head-none rest (sym n ∙ h))) ∙ sym e
 
-pub length-push : (pre : List (Tag × Rest)) (p : Tag × Rest) → length (pre ++ (p ∷ [])) ≡ length pre + 1
-length-push pre p = length-append pre (p ∷ [])
+pub length-push : (pre : List (Tag × Rest)) (p : Tag × Rest) (i : ℕ) → length pre ≡ i → length (pre ++ (p ∷ [])) ≡ i + 1
+length-push pre p i e = length-append pre (p ∷ []) ∙ ap (λ z. z + 1) e
 
 -- the size index takes a standing log
 pub fill-one : {X S : Type 0} (s : Ghosts S Size ℕ) (old now new : S) (row pre ps : List (Tag × Rest)) (p : Tag × Rest) (k : Size) (r : Result X Fault)

@@ -132,8 +132,22 @@ pub none-of : {X : Type 0} (o : Option X) → isSome o ≡ false → o ≡ None
 none-of None e = refl
 none-of (Some x) e = absurd (true≢false e)
 
--- what the two puts of ARRIVE come to
+-- what a get that is tested says
+pub lacks-of : (row : List (Tag × Rest)) (n : ℕ) (o : Option Rest) (f : Bool) → o ≡ at row n → f ≡ isSome o → f ≡ false → isSome (at row n) ≡ false
+lacks-of row n o f e g h = sym (ap isSome e) ∙ sym g ∙ h
+
+-- a full yard, and what the two puts of ARRIVE come to
 module _ {T S : Type 0} (t : Ghosts T Tag Rest) (s : Ghosts S Size ℕ) (cap : ℕ) (ls : Loaded) (h : History) (y y′ : Yard T S) (told : Tells t s cap ls h y) where
+  pub arrive-full-ok : (p : List Log) (n : ℕ) (b : Body) → Ascending tagBefore (t .row (y .tags)) → isSome (at (t .row (y .tags)) n) ≡ false → TagOk n → BodyOk b → capacity t s y ≤ length (t .row (y .tags))
+      → Lawful cap ls h (event (Arrive n b) (Err refusal.Full) p) × Tells t s cap ls (event (Arrive n b) (Err refusal.Full) p ∷ h) y
+  arrive-full-ok p n b asc lacks tok bok over =
+      let none : at (t .row (y .tags)) n ≡ None = none-of (at (t .row (y .tags)) n) lacks in
+      let m = present-now t s cap ls h y told asc in
+      let full : present ls h ≡ cap = omega (arith, m, told .capped, told .sound .room, over) in (
+        record { answered = (λ _. arrive-full cap (present ls h) (logAt ls h n) (sym (told .logs n) ∙ none) full, λ bad. absurd (bad (tok, bok))); page = refl },
+        record { sound = told .sound; capped = told .capped; logs = told .logs },
+      )
+
   pub arrive-ok : {X : Type 0} (p : List Log) (n : ℕ) (b : Body) (k : Size) (r r′ : Result X Fault) → k ≡ sizeOf n b
       → Ascending tagBefore (t .row (y .tags))
       → t .kept (y′ .tags) → s .kept (y′ .sizes)
@@ -159,9 +173,6 @@ module _ {T S : Type 0} (t : Ghosts T Tag Rest) (s : Ghosts S Size ℕ) (cap : �
             (put-done (t .row) (t .room) (t .kept) tagBefore (y .tags) (y′ .tags) (record { 0 = n }) r (told .sound .tags-kept) (record { body = b; place = place.Standing }) put none few)
             (put-done (s .row) (s .room) (s .kept) sizeBefore (y .sizes) (y′ .sizes) (sizeOf n b) r′ (told .sound .sizes-kept) (b .bay) (subst (λ q. Puts (s .row) (s .room) (s .kept) sizeBefore (y .sizes) q (b .bay) r′ (y′ .sizes)) ke put′) absent fewer),
       )
-
-standing-rest : Body → Rest
-standing-rest b = record { body = b; place = place.Standing }
 
 -- a standing log is in the size index under its key
 pub bay-there : (tags : List (Tag × Rest)) (sizes : List (Size × ℕ)) (n : ℕ) (b : Body) → Agree tags sizes → at tags n ≡ Some (record { body = b; place = place.Standing }) → lookup sizeBefore sizes (sizeOf n b) ≡ Some (b .bay)
@@ -296,14 +307,14 @@ at-saw-done o b e = subst (λ z. law.atSawOnly z (Ok Done)) (sym e) refl
 
 module _ {T S : Type 0} (t : Ghosts T Tag Rest) (s : Ghosts S Size ℕ) (cap : ℕ) (ls : Loaded) (h : History) (y y′ : Yard T S) (told : Tells t s cap ls h y)
     (ascT : Ascending tagBefore (t .row (y .tags)))
-    (kt : t .kept (y′ .tags)) (ks : s .kept (y′ .sizes)) (rt : t .room (y′ .tags) ≡ t .room (y .tags)) (rs : s .room (y′ .sizes) ≡ s .room (y .sizes)) (p : List Log) (n : ℕ) (rest : Rest) (tok : TagOk n) (is : at (t .row (y .tags)) n ≡ Some rest) where
+    (kt : t .kept (y′ .tags)) (ks : s .kept (y′ .sizes)) (rt : t .room (y′ .tags) ≡ t .room (y .tags)) (rs : s .room (y′ .sizes) ≡ s .room (y .sizes)) (p : List Log) (n : ℕ) (rest : Rest) (tok : TagOk n) (got : Some rest ≡ at (t .row (y .tags)) n) where
   pub withdraw-ok : {X : Type 0} (k : Size) (r r′ : Result X Fault) → Ascending sizeBefore (s .row (y .sizes)) → rest .place ≡ place.Standing → k ≡ sizeOf n (rest .body)
       → Takes (t .row) (t .room) (t .kept) tagBefore (y .tags) (record { 0 = n }) r (y′ .tags)
       → Takes (s .row) (s .room) (s .kept) sizeBefore (y .sizes) k r′ (y′ .sizes)
       → Lawful cap ls h (event (Withdraw n) (Ok Done) p) × Tells t s cap ls (event (Withdraw n) (Ok Done) p ∷ h) y′
   withdraw-ok k r r′ ascS pl ke take take′ =
       let b = rest .body in
-      let is′ = is ∙ ap Some (rest-is rest place.Standing pl) in (
+      let is′ = sym got ∙ ap Some (rest-is rest place.Standing pl) in (
         record { answered = (λ _. withdraw-done (logAt ls h n) b (sym (told .logs n) ∙ is′), λ bad. absurd (bad tok)); page = refl },
         leaves t s cap ls h y y′ told ascT kt ks rt rs n b _ r r′ ascS is′ take (subst (λ q. Takes (s .row) (s .room) (s .kept) sizeBefore (y .sizes) q r′ (y′ .sizes)) ke take′) (logs-withdraw ls h p n),
       )
@@ -314,7 +325,7 @@ module _ {T S : Type 0} (t : Ghosts T Tag Rest) (s : Ghosts S Size ℕ) (cap : �
       → Lawful cap ls h (event (Saw n) (Ok Done) p) × Tells t s cap ls (event (Saw n) (Ok Done) p ∷ h) y′
   saw-ok r pl sizes′ take =
       let b = rest .body in
-      let is′ = is ∙ ap Some (rest-is rest place.AtSaw pl) in (
+      let is′ = sym got ∙ ap Some (rest-is rest place.AtSaw pl) in (
         record { answered = (λ _. at-saw-done (logAt ls h n) b (sym (told .logs n) ∙ is′), λ bad. absurd (bad tok)); page = refl },
         sawn t s cap ls h y y′ told ascT kt ks rt rs n b _ r sizes′ is′ take (logs-saw ls h p n),
       )
@@ -325,7 +336,7 @@ module _ {T S : Type 0} (t : Ghosts T Tag Rest) (s : Ghosts S Size ℕ) (cap : �
       → Lawful cap ls h (event (Back n) (Ok Done) p) × Tells t s cap ls (event (Back n) (Ok Done) p ∷ h) y′
   back-ok k r r′ pl ke set put =
       let b = rest .body in
-      let is′ = is ∙ ap Some (rest-is rest place.AtSaw pl) in (
+      let is′ = sym got ∙ ap Some (rest-is rest place.AtSaw pl) in (
         record { answered = (λ _. at-saw-done (logAt ls h n) b (sym (told .logs n) ∙ is′), λ bad. absurd (bad tok)); page = refl },
         backed t s cap ls h y y′ told ascT kt ks rt rs n b _ r r′ is′ set (subst (λ q. Puts (s .row) (s .room) (s .kept) sizeBefore (y .sizes) q (b .bay) r′ (y′ .sizes)) ke put) (logs-back ls h p n (record { body = b; place = place.AtSaw }) (sym (told .logs n) ∙ is′)),
       )
@@ -365,15 +376,12 @@ module _ {T S : Type 0} (t : Ghosts T Tag Rest) (s : Ghosts S Size ℕ) (cap : �
     record { sound = told .sound; capped = told .capped; logs = told .logs },
   )
 
-  pub none-fits : FirstFit (s .row (y .sizes)) sp d l None → law.called ls h sp d l (Err refusal.NoneFits)
-  none-fits first = (refl, λ n b is f. first (sizeOf n b) (b .bay) (standing-key n b is) f)
-
   module _ (k : Size) (first : FirstFit (s .row (y .sizes)) sp d l (Some k)) where
     the-log : (b : Body) × (at (t .row (y .tags)) (k .tag) ≡ Some (record { body = b; place = place.Standing })) × (k ≡ sizeOf (k .tag) b)
     the-log = key-of-bay (at (t .row (y .tags)) (k .tag)) k (first .1 .0) (sym (told .sound .agree .bays k) ∙ first .1 .1)
 
-    pub not-lost : at (t .row (y .tags)) (k .tag) ≡ None → ⊥
-    not-lost e = none-some _ (sym e ∙ the-log .1)
+    pub not-lost : None ≡ at (t .row (y .tags)) (k .tag) → ⊥
+    not-lost e = none-some _ (e ∙ the-log .1)
 
     pub fits-first : (b : Body) → at (t .row (y .tags)) (k .tag) ≡ Some (record { body = b; place = place.Standing }) → k ≡ sizeOf (k .tag) b → law.called ls h sp d l (Ok (Found (record { tag = k .tag; rest = record { body = b; place = place.AtSaw } })))
     fits-first b is ke = (
@@ -389,15 +397,15 @@ module _ {T S : Type 0} (t : Ghosts T Tag Rest) (s : Ghosts S Size ℕ) (cap : �
     pub call-ok : {X : Type 0} (y′ : Yard T S) (ascT : Ascending tagBefore (t .row (y .tags))) (ascS : Ascending sizeBefore (s .row (y .sizes)))
         → t .kept (y′ .tags) → s .kept (y′ .sizes) → t .room (y′ .tags) ≡ t .room (y .tags) → s .room (y′ .sizes) ≡ s .room (y .sizes)
         → DiameterOk d × LengthOk l
-        → (was : Rest) → at (t .row (y .tags)) (k .tag) ≡ Some was → (r r′ : Result X Fault)
+        → (was : Rest) → Some was ≡ at (t .row (y .tags)) (k .tag) → (r r′ : Result X Fault)
         → Sets (t .row) (t .room) (t .kept) tagBefore (y .tags) (record { 0 = k .tag }) (record { body = was .body; place = place.AtSaw }) r (y′ .tags)
         → Takes (s .row) (s .room) (s .kept) sizeBefore (y .sizes) k r′ (y′ .sizes)
         → Lawful cap ls h (event (Calls sp d l) (Ok (Found (record { tag = k .tag; rest = record { body = was .body; place = place.AtSaw } }))) p)
         × Tells t s cap ls (event (Calls sp d l) (Ok (Found (record { tag = k .tag; rest = record { body = was .body; place = place.AtSaw } }))) p ∷ h) y′
-    call-ok y′ ascT ascS kt ks rt rs ok was is r r′ set take =
+    call-ok y′ ascT ascS kt ks rt rs ok was got r r′ set take =
         let n = k .tag in
         let b = was .body in
-        let e : record { body = the-log .0; place = place.Standing } ≡ was = some-inside _ was (sym (the-log .1) ∙ is) in
+        let e : record { body = the-log .0; place = place.Standing } ≡ was = some-inside _ was (sym (the-log .1) ∙ sym got) in
         let be : the-log .0 ≡ b = ap (λ (z : Rest). z .body) e in
         let is′ : at (t .row (y .tags)) n ≡ Some (record { body = b; place = place.Standing }) = the-log .1 ∙ ap (λ z. Some (record { body = z; place = place.Standing })) be in
         let ke : k ≡ sizeOf n b = the-log .2 ∙ ap (sizeOf n) be in (

@@ -4,5 +4,6 @@ pub mod Law
 pub mod Opens
 pub mod Pages
 pub mod Refusals
+pub mod Serving
 pub mod Sizes
 pub mod Tells

@@ -20,6 +20,9 @@ use logs::Tag;
 use logs::TagKey;
 use ordered::OrderedIndex;
 
+// No log has a larger diameter.
+const THICKEST: u16 = Limits::DIAMETER.high as u16;
+
 pub(crate) fn diameter_fits(diameter: u16) -> bool
     ensures { λ r. ⌜ Decides r (DiameterOk diameter) ⌝ }
 {
@@ -38,7 +41,7 @@ impl<T: OrderedIndex<Tag, Rest>, S: OrderedIndex<Size, u8>> Yard<T, S> {
         ensures { λ r. ⌜ (S·OrderedIndex .kept (now (self .entry) .sizes) → LimitsOf (S·OrderedIndex .row (now (self .entry) .sizes)) → FirstFit (S·OrderedIndex .row (now (self .entry) .sizes)) species diameter length r) ⌝ }
     {
         let mut d = diameter;
-        while d <= 1200 {
+        while d <= THICKEST {
             let from = Size {
                 species,
                 diameter: d,

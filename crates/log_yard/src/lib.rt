@@ -7,10 +7,12 @@ mod moves;
 mod opening;
 mod refusal;
 mod running;
+mod serving;
 mod yard;
 
 pub use answer::Answer;
 pub use opening::Unopened;
 pub use refusal::OpenRefusal;
 pub use refusal::Refusal;
+pub use serving::serve;
 pub use yard::Yard;

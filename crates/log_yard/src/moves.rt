@@ -1,6 +1,5 @@
 ghost use mathlib.Core.Path.{_≡_};
 ghost use mathlib.Core.List.{List};
-ghost use Prim.Native.Nat.{ℕ, min};
 ghost use Rattle.log_yard.specs.History.{event};
 ghost use Rattle.log_yard.specs.Tells.{Stays, Obeys, capacity};
 use crate::Answer;
@@ -22,7 +21,7 @@ use ordered::OrderedIndex;
 impl<T: OrderedIndex<Tag, Rest>, S: OrderedIndex<Size, u8>> Yard<T, S> {
     // How many logs can be present: as many as the lesser index has room for.
     pub fn capacity(&self) -> usize
-        ensures { λ r. ⌜ (T·OrderedIndex .kept (now (self .entry) .tags) → S·OrderedIndex .kept (now (self .entry) .sizes) → r ≡ min (T·OrderedIndex .room (now (self .entry) .tags)) (S·OrderedIndex .room (now (self .entry) .sizes))) ⌝ }
+        ensures { λ r. ⌜ (T·OrderedIndex .kept (now (self .entry) .tags) → S·OrderedIndex .kept (now (self .entry) .sizes) → r ≡ capacity T·OrderedIndex S·OrderedIndex (now (self .entry))) ⌝ }
     {
         let a = self.tags.capacity();
         let b = self.sizes.capacity();

@@ -1,5 +1,4 @@
-use mathlib.Core.Path.{_≡_, refl, sym, ap, _∙_}
-use native.Mathlib.Omega.{arith}
+use mathlib.Core.Path.{refl}
 use borrow.Author.Needs.{needs}
 use Rattle.log_yard.proofs.Steps as step
 use Rattle.log_yard.proofs.yard.Yard.call.Needs as need
@@ -22,7 +21,7 @@ returns-in-rest-get g c = record {
       let s = g .S·OrderedIndex in
       let y = c .args .self .now in
       let first = c .in-Some .ensures tt (told .sound .sizes-kept) (step.limits-of (t .row (y .tags)) (s .row (y .sizes)) (told .sound .agree)) in
-      absurd (step.not-lost t s cap ls h y told (c .args .species) (c .args .diameter) (c .args .length) page (c .in-Some .key) first (sym (c .in-rest-get .ensures tt .meaning .gives (told .sound .tags-kept))));
+      absurd (step.not-lost t s cap ls h y told (c .args .species) (c .args .diameter) (c .args .length) page (c .in-Some .key) first (c .in-rest-get .ensures tt .meaning .gives (told .sound .tags-kept)));
   still = refl;
 }
 
@@ -39,7 +38,7 @@ returns g c = record {
       (record { tags = c .set .last .self; sizes = c .take .last .self })
       (c .get .ensures .meaning .orderly kt .ascending) (c .take .ensures .meaning .orderly ks .ascending)
       (c .set .ensures .meaning .stays kt) (c .take .ensures .meaning .stays ks) (c .set .ensures .meaning .capacity) (c .take .ensures .meaning .capacity)
-      (search needs) (c .in-Some-get .was) (sym (c .in-Some-get .ensures tt .meaning .gives kt)) (c .set .result) (c .take .result)
+      (search needs) (c .in-Some-get .was) (c .in-Some-get .ensures tt .meaning .gives kt) (c .set .result) (c .take .result)
       (c .set .ensures .meaning) (c .take .ensures .meaning);
   still = tt;
 }

@@ -1,4 +1,3 @@
-use mathlib.Core.Path.{_≡_, refl, sym, ap, _∙_}
 use borrow.Author.Needs.{needs}
 use Rattle.log_yard.proofs.Steps as step
 use Rattle.log_yard.proofs.yard.Yard.withdraw.Needs as need
@@ -11,7 +10,7 @@ returns-in-Standing g c = record {
       step.withdraw-ok (g .T·OrderedIndex) (g .S·OrderedIndex) cap ls h (c .args .self .now) (record { tags = c .take-in-Standing .last .self; sizes = c .take .last .self }) told
       (c .get .ensures .meaning .orderly kt .ascending)
       (c .take-in-Standing .ensures .meaning .stays kt) (c .take .ensures .meaning .stays ks) (c .take-in-Standing .ensures .meaning .capacity) (c .take .ensures .meaning .capacity)
-      page (c .args .tag) (c .in-Some .rest) (search needs) (sym (c .in-Some .ensures tt .meaning .gives kt))
+      page (c .args .tag) (c .in-Some .rest) (search needs) (c .in-Some .ensures tt .meaning .gives kt)
       (c .size-of .result) (c .take-in-Standing .result) (c .take .result) (c .take .ensures .meaning .orderly ks .ascending) (c .in-Standing .is) (c .size-of .ensures)
       (c .take-in-Standing .ensures .meaning) (c .take .ensures .meaning);
   still = tt;
