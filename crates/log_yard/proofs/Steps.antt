@@ -40,10 +40,12 @@ use Rattle.logs.specs.Limits.{TagOk, BodyOk, DiameterOk, LengthOk}
 use Rattle.logs.specs.Codes.{code}
 use Rattle.logs.specs.declared.species.Species.{Species}
 use Rattle.log_yard.specs.Law as law
+use Rattle.log_yard.specs.declared.refusal.Refusal.{Refusal}
 use Rattle.log_yard.specs.declared.refusal.Refusal.the-variants as refusal
+use Rattle.log_yard.specs.Refusals.{refusalNumber}
 use Rattle.log_yard.specs.History.{Loaded, History, Event, logAt, present}
 use Rattle.log_yard.specs.Law.{Lawful}
-use Rattle.log_yard.specs.Tells.{at, bayAt, Agree, Sound, Tells, capacity}
+use Rattle.log_yard.specs.Tells.{at, bayAt, Agree, Sound, Tells, Sought, capacity}
 use Rattle.log_yard.specs.History.{event}
 use Rattle.log_yard.specs.Fitting.{LimitsOf, KeyFits, FirstFit}
 use Rattle.log_yard.proofs.Places.{logs-arrive, logs-withdraw, logs-saw, logs-back, logs-call}
@@ -299,6 +301,38 @@ module _ {T S : Type 0} (t : Ghosts T Tag Rest) (s : Ghosts S Size ℕ) (cap : �
 pub rest-is : (r : Rest) (p : Place) → r .place ≡ p → r ≡ record { body = r .body; place = p }
 rest-is r p e = λ i. record { body = r .body; place = e i }
 
+-- a tag that is outside the limits or absent
+pub unsought : (row : List (Tag × Rest)) (n : ℕ) (e : Refusal) (o : Option Rest) (F : Option Rest → Type 0) → Sought row n (Err e) → at row n ≡ o → (refusalNumber e ≡ 22 → F None) → law.unless 14 (TagOk n) (Err e) (F o)
+unsought row n e o F (inl a) is f = (λ ok. absurd (a .1 ok), λ _. a .0)
+unsought row n e o F (inr a) is f = (λ _. subst F (sym (a .2) ∙ is) (f (a .0)), λ bad. absurd (bad (a .1)))
+
+module _ {T S : Type 0} (t : Ghosts T Tag Rest) (s : Ghosts S Size ℕ) (cap : ℕ) (ls : Loaded) (h : History) (y : Yard T S) (told : Tells t s cap ls h y) (p : List Log) (n : ℕ) (e : Refusal) (sought : Sought (t .row (y .tags)) n (Err e)) where
+  abbrev Told : Call → Type 0
+  Told c = Lawful cap ls h (event c (Err e) p) × Tells t s cap ls (event c (Err e) p ∷ h) y
+
+  told-on : (c : Call) → Tells t s cap ls (event c (Err e) p ∷ h) y
+  told-on c = record { sound = told .sound; capped = told .capped; logs = told .logs }
+
+  pub find-no : Told (Find n)
+  find-no = (record { answered = unsought (t .row (y .tags)) n e (logAt ls h n) (λ o. law.found n o (Err e)) sought (told .logs n) (λ z. z); page = refl }, told-on (Find n))
+
+  pub withdraw-no : Told (Withdraw n)
+  withdraw-no = (record { answered = unsought (t .row (y .tags)) n e (logAt ls h n) (λ o. law.withdrawn o (Err e)) sought (told .logs n) (λ z. z); page = refl }, told-on (Withdraw n))
+
+  pub saw-no : Told (Saw n)
+  saw-no = (record { answered = unsought (t .row (y .tags)) n e (logAt ls h n) (λ o. law.atSawOnly o (Err e)) sought (told .logs n) (λ z. z); page = refl }, told-on (Saw n))
+
+  pub back-no : Told (Back n)
+  back-no = (record { answered = unsought (t .row (y .tags)) n e (logAt ls h n) (λ o. law.atSawOnly o (Err e)) sought (told .logs n) (λ z. z); page = refl }, told-on (Back n))
+
+-- FIND gives the log that is there
+pub find-ok : {T S : Type 0} (t : Ghosts T Tag Rest) (s : Ghosts S Size ℕ) (cap : ℕ) (ls : Loaded) (h : History) (y : Yard T S) → Tells t s cap ls h y → (p : List Log) (n : ℕ) (r : Rest) → Sought (t .row (y .tags)) n (Ok r)
+    → Lawful cap ls h (event (Find n) (Ok (Found (record { tag = n; rest = r }))) p) × Tells t s cap ls (event (Find n) (Ok (Found (record { tag = n; rest = r }))) p ∷ h) y
+find-ok t s cap ls h y told p n r sought = (
+  record { answered = (λ _. subst (λ o. law.found n o (Ok (Found (record { tag = n; rest = r })))) (sym (sought .1) ∙ told .logs n) refl, λ bad. absurd (bad (sought .0))); page = refl },
+  record { sound = told .sound; capped = told .capped; logs = told .logs },
+)
+
 withdraw-done : (o : Option Rest) (b : Body) → o ≡ Some (record { body = b; place = place.Standing }) → law.withdrawn o (Ok Done)
 withdraw-done o b e = subst (λ z. law.withdrawn z (Ok Done)) (sym e) refl
 
@@ -307,15 +341,15 @@ at-saw-done o b e = subst (λ z. law.atSawOnly z (Ok Done)) (sym e) refl
 
 module _ {T S : Type 0} (t : Ghosts T Tag Rest) (s : Ghosts S Size ℕ) (cap : ℕ) (ls : Loaded) (h : History) (y y′ : Yard T S) (told : Tells t s cap ls h y)
     (ascT : Ascending tagBefore (t .row (y .tags)))
-    (kt : t .kept (y′ .tags)) (ks : s .kept (y′ .sizes)) (rt : t .room (y′ .tags) ≡ t .room (y .tags)) (rs : s .room (y′ .sizes) ≡ s .room (y .sizes)) (p : List Log) (n : ℕ) (rest : Rest) (tok : TagOk n) (got : Some rest ≡ at (t .row (y .tags)) n) where
+    (kt : t .kept (y′ .tags)) (ks : s .kept (y′ .sizes)) (rt : t .room (y′ .tags) ≡ t .room (y .tags)) (rs : s .room (y′ .sizes) ≡ s .room (y .sizes)) (p : List Log) (n : ℕ) (rest : Rest) (sought : Sought (t .row (y .tags)) n (Ok rest)) where
   pub withdraw-ok : {X : Type 0} (k : Size) (r r′ : Result X Fault) → Ascending sizeBefore (s .row (y .sizes)) → rest .place ≡ place.Standing → k ≡ sizeOf n (rest .body)
       → Takes (t .row) (t .room) (t .kept) tagBefore (y .tags) (record { 0 = n }) r (y′ .tags)
       → Takes (s .row) (s .room) (s .kept) sizeBefore (y .sizes) k r′ (y′ .sizes)
       → Lawful cap ls h (event (Withdraw n) (Ok Done) p) × Tells t s cap ls (event (Withdraw n) (Ok Done) p ∷ h) y′
   withdraw-ok k r r′ ascS pl ke take take′ =
       let b = rest .body in
-      let is′ = sym got ∙ ap Some (rest-is rest place.Standing pl) in (
-        record { answered = (λ _. withdraw-done (logAt ls h n) b (sym (told .logs n) ∙ is′), λ bad. absurd (bad tok)); page = refl },
+      let is′ = sought .1 ∙ ap Some (rest-is rest place.Standing pl) in (
+        record { answered = (λ _. withdraw-done (logAt ls h n) b (sym (told .logs n) ∙ is′), λ bad. absurd (bad (sought .0))); page = refl },
         leaves t s cap ls h y y′ told ascT kt ks rt rs n b _ r r′ ascS is′ take (subst (λ q. Takes (s .row) (s .room) (s .kept) sizeBefore (y .sizes) q r′ (y′ .sizes)) ke take′) (logs-withdraw ls h p n),
       )
 
@@ -325,8 +359,8 @@ module _ {T S : Type 0} (t : Ghosts T Tag Rest) (s : Ghosts S Size ℕ) (cap : �
       → Lawful cap ls h (event (Saw n) (Ok Done) p) × Tells t s cap ls (event (Saw n) (Ok Done) p ∷ h) y′
   saw-ok r pl sizes′ take =
       let b = rest .body in
-      let is′ = sym got ∙ ap Some (rest-is rest place.AtSaw pl) in (
-        record { answered = (λ _. at-saw-done (logAt ls h n) b (sym (told .logs n) ∙ is′), λ bad. absurd (bad tok)); page = refl },
+      let is′ = sought .1 ∙ ap Some (rest-is rest place.AtSaw pl) in (
+        record { answered = (λ _. at-saw-done (logAt ls h n) b (sym (told .logs n) ∙ is′), λ bad. absurd (bad (sought .0))); page = refl },
         sawn t s cap ls h y y′ told ascT kt ks rt rs n b _ r sizes′ is′ take (logs-saw ls h p n),
       )
 
@@ -336,8 +370,8 @@ module _ {T S : Type 0} (t : Ghosts T Tag Rest) (s : Ghosts S Size ℕ) (cap : �
       → Lawful cap ls h (event (Back n) (Ok Done) p) × Tells t s cap ls (event (Back n) (Ok Done) p ∷ h) y′
   back-ok k r r′ pl ke set put =
       let b = rest .body in
-      let is′ = sym got ∙ ap Some (rest-is rest place.AtSaw pl) in (
-        record { answered = (λ _. at-saw-done (logAt ls h n) b (sym (told .logs n) ∙ is′), λ bad. absurd (bad tok)); page = refl },
+      let is′ = sought .1 ∙ ap Some (rest-is rest place.AtSaw pl) in (
+        record { answered = (λ _. at-saw-done (logAt ls h n) b (sym (told .logs n) ∙ is′), λ bad. absurd (bad (sought .0))); page = refl },
         backed t s cap ls h y y′ told ascT kt ks rt rs n b _ r r′ is′ set (subst (λ q. Puts (s .row) (s .room) (s .kept) sizeBefore (y .sizes) q (b .bay) r′ (y′ .sizes)) ke put) (logs-back ls h p n (record { body = b; place = place.AtSaw }) (sym (told .logs n) ∙ is′)),
       )
 

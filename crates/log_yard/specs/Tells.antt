@@ -1,6 +1,7 @@
 -- What a yard over two indexes holds, and how a call changes it.
 use mathlib.Core.Path.{_≡_}
 use mathlib.Core.List.{List, _∷_}
+use mathlib.Core.Logic.{_⊎_}
 use mathlib.Core.Bool.{_&&_, cond}
 use Prim.Native.Nat.{ℕ, _≤_, min}
 use lib.ListN.{length}
@@ -22,6 +23,7 @@ use Rattle.log_yard.specs.declared.refusal.Refusal.{Refusal}
 use Rattle.log_yard.specs.declared.yard.Yard.{Yard}
 use Rattle.log_yard.specs.History.{Loaded, History, logAt, Event}
 use Rattle.log_yard.specs.Law.{Lawful, Runs, extended}
+use Rattle.log_yard.specs.Refusals.{refusalNumber}
 use Rattle.log_yard.specs.Sizes.{sizeOf, stands, tally}
 
 -- the log with the tag t, of a row of the tag index
@@ -32,6 +34,11 @@ at row t = lookup tagBefore row (record { 0 = t })
 abbrev pub bayAt : Option Rest → Size → Option ℕ
 bayAt None k = None
 bayAt (Some r) k = cond (stands r && same sizeBefore (sizeOf (k .tag) (r .body)) k) (Some (r .body .bay)) None
+
+-- What a tag is asked for: its log in the row, or 14 outside the limits, 22 absent.
+abbrev pub Sought : List (Tag × Rest) → ℕ → Result Rest Refusal → Type 0
+Sought row t (Ok r) = TagOk t × (at row t ≡ Some r)
+Sought row t (Err e) = ((refusalNumber e ≡ 14) × (TagOk t → ⊥)) ⊎ ((refusalNumber e ≡ 22) × TagOk t × (at row t ≡ None))
 
 -- The two rows agree: the size index has exactly the standing logs.
 pub record Agree (tags : List (Tag × Rest)) (sizes : List (Size × ℕ)) : Type 0 where

@@ -1,7 +1,7 @@
 ghost use mathlib.Core.Path.{_≡_};
 ghost use mathlib.Core.List.{List};
 ghost use Rattle.log_yard.specs.History.{event};
-ghost use Rattle.log_yard.specs.Tells.{Stays, Obeys, capacity};
+ghost use Rattle.log_yard.specs.Tells.{Sought, Stays, Obeys, capacity};
 use crate::Answer;
 use crate::Refusal;
 use crate::Yard;
@@ -28,17 +28,25 @@ impl<T: OrderedIndex<Tag, Rest>, S: OrderedIndex<Size, u8>> Yard<T, S> {
         a.min(b)
     }
 
-    // The log with its place.
-    pub fn find(&self, tag: u32) -> Result<Answer, Refusal>
-        ensures { λ r. ⌜ ((page : List Log) → Obeys T·OrderedIndex S·OrderedIndex (now (self .entry)) (event (Call.Find tag) r page) (now (self .entry))) ⌝ }
+    // What a present log is beside its tag.
+    fn rest_of(&self, tag: u32) -> Result<Rest, Refusal>
+        ensures { λ r. ⌜ (T·OrderedIndex .kept (now (self .entry) .tags) → Sought (T·OrderedIndex .row (now (self .entry) .tags)) tag r) ⌝ }
     {
         if !Tag(tag).fits() {
             return Err(Refusal::Outside);
         }
         match self.tags.get(Tag(tag)) {
-            Some(rest) => Ok(Answer::Found(Log { tag, rest })),
+            Some(rest) => Ok(rest),
             None => Err(Refusal::Absent),
         }
+    }
+
+    // The log with its place.
+    pub fn find(&self, tag: u32) -> Result<Answer, Refusal>
+        ensures { λ r. ⌜ ((page : List Log) → Obeys T·OrderedIndex S·OrderedIndex (now (self .entry)) (event (Call.Find tag) r page) (now (self .entry))) ⌝ }
+    {
+        let rest = self.rest_of(tag)?;
+        Ok(Answer::Found(Log { tag, rest }))
     }
 
     // Adds a standing log.
@@ -69,12 +77,7 @@ impl<T: OrderedIndex<Tag, Rest>, S: OrderedIndex<Size, u8>> Yard<T, S> {
         ensures law { λ r. ⌜ ((page : List Log) → Obeys T·OrderedIndex S·OrderedIndex (now (self .entry)) (event (Call.Withdraw tag) r page) (now (self .exit))) ⌝ }
         ensures still { λ r. ⌜ Stays r (now (self .entry)) (now (self .exit)) ⌝ }
     {
-        if !Tag(tag).fits() {
-            return Err(Refusal::Outside);
-        }
-        let Some(rest) = self.tags.get(Tag(tag)) else {
-            return Err(Refusal::Absent);
-        };
+        let rest = self.rest_of(tag)?;
         match rest.place {
             Place::AtSaw => Err(Refusal::AtSaw),
             Place::Standing => {
@@ -90,16 +93,12 @@ impl<T: OrderedIndex<Tag, Rest>, S: OrderedIndex<Size, u8>> Yard<T, S> {
         ensures law { λ r. ⌜ ((page : List Log) → Obeys T·OrderedIndex S·OrderedIndex (now (self .entry)) (event (Call.Saw tag) r page) (now (self .exit))) ⌝ }
         ensures still { λ r. ⌜ Stays r (now (self .entry)) (now (self .exit)) ⌝ }
     {
-        if !Tag(tag).fits() {
-            return Err(Refusal::Outside);
-        }
-        let Some(rest) = self.tags.get(Tag(tag)) else {
-            return Err(Refusal::Absent);
-        };
+        let rest = self.rest_of(tag)?;
         match rest.place {
             Place::Standing => Err(Refusal::Standing),
             Place::AtSaw => {
-                let _ = self.tags.take(Tag(tag));
+                let key = Tag(tag);
+                let _ = self.tags.take(key);
                 Ok(Answer::Done)
             }
         }
@@ -110,12 +109,7 @@ impl<T: OrderedIndex<Tag, Rest>, S: OrderedIndex<Size, u8>> Yard<T, S> {
         ensures law { λ r. ⌜ ((page : List Log) → Obeys T·OrderedIndex S·OrderedIndex (now (self .entry)) (event (Call.Back tag) r page) (now (self .exit))) ⌝ }
         ensures still { λ r. ⌜ Stays r (now (self .entry)) (now (self .exit)) ⌝ }
     {
-        if !Tag(tag).fits() {
-            return Err(Refusal::Outside);
-        }
-        let Some(rest) = self.tags.get(Tag(tag)) else {
-            return Err(Refusal::Absent);
-        };
+        let rest = self.rest_of(tag)?;
         match rest.place {
             Place::Standing => Err(Refusal::Standing),
             Place::AtSaw => {
