@@ -33,7 +33,7 @@ decode-code Pine = refl
 decode-code Larch = refl
 decode-code Douglas = refl
 
-code-injective : (s t : Species) → code s ≡ code t → s ≡ t
+pub code-injective : (s t : Species) → code s ≡ code t → s ≡ t
 code-injective s t e = sym (decode-code s) ∙ ap decode e ∙ decode-code t
 
 pub size-transitive : (a b c : Size) → sizeBefore a b ≡ true → sizeBefore b c ≡ true → sizeBefore a c ≡ true

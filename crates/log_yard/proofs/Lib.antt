@@ -1,0 +1,9 @@
+pub mod Counts
+pub mod Fits
+pub mod Lists
+pub mod Opened
+pub mod Places
+pub mod Rows
+pub mod Runs
+pub mod Steps
+pub mod Tallies
