@@ -24,9 +24,10 @@ use Rattle.ordered.specs.Faults.{Outcome}
 use Rattle.ordered.specs.Meaning.{Order, Ascending, holds, inserted}
 use Rattle.ordered.specs.Slots.{keep, pairs, Shows, Holds}
 use Rattle.ordered.proofs.Rows.{length-inserted}
-use Rattle.slot_rows.specs.declared.halving.Bound.the-variants.{Lower, Every}
-use Rattle.slot_rows.specs.Ranks.{below, lead, Falling, located}
-use Rattle.slot_rows.proofs.Held.{length-held, lead-held, lead-every, falling-every, found-in, missing-in, at}
+use Rattle.slot_rows.specs.declared.halving.Bound.the-variants.{Lower}
+use Rattle.slot_rows.specs.Ranks.{below, Falling, located}
+use Rattle.slot_rows.proofs.Held.{length-held, at}
+use Rattle.slot_rows.proofs.Looks.{found, missing}
 use Rattle.leaf_rows.specs.declared.placing.Span.{Span}
 use Rattle.leaf_rows.specs.Leaves.{leafAt, Packed, countAt, Leafed, Belongs, distance, Nearest, PutIn}
 use Rattle.leaf_rows.specs.Puts.{Puts, between}
@@ -51,17 +52,6 @@ in-leaf b k m t ys r l w g =
       subst (λ u. Falling (below Lower b k) (take u (drop (t * m) ys)) → r ≡ located b k (take u (drop (t * m) ys))) e g,
     )
 
--- the rank of every key in a leaf is the count of its pairs
-pub free-at : {K R : Type 0} (b : K → K → Bool) (k : K) (m r : ℕ) (ys : List (Slot K R)) (filled last : ℕ)
-    → (Falling (below Every b k) (take (r * m + m - r * m) (drop (r * m) ys)) → filled ≡ lead (below Every b k) (take (r * m + m - r * m) (drop (r * m) ys)))
-    → last ≡ min filled (m - 1) → Packed (leafAt m ys r) → countAt m ys r < m → r * m + last ≡ r * m + countAt m ys r
-free-at b k m r ys filled last g e h l =
-    let q : r * m + m - r * m ≡ m = omega arith in
-    let f : filled ≡ lead (below Every b k) (leafAt m ys r) =
-    subst (λ u. Falling (below Every b k) (take u (drop (r * m) ys)) → filled ≡ lead (below Every b k) (take u (drop (r * m) ys))) q g (falling-every b k (pairs (leafAt m ys r)) (leafAt m ys r) h) in
-    let c : filled ≡ countAt m ys r = f ∙ lead-held Every b k (pairs (leafAt m ys r)) (leafAt m ys r) h ∙ lead-every (pairs (leafAt m ys r)) in
-    omega (arith, c, e, l)
-
 pairs-short : {K R : Type 0} (ss : List (Slot K R)) → length (pairs ss) ≤ length ss
 pairs-short [] = omega arith
 pairs-short (s ∷ ss) = elim (s .filled) as (λ t. length (keep t (s .key, s .value) (pairs ss)) ≤ suc (length ss)) [ true ↦ omega (arith, pairs-short ss) | false ↦ omega (arith, pairs-short ss) ]
@@ -75,7 +65,7 @@ module _ {K R : Type 0} {b : K → K → Bool} (o : Order b) (m n : ℕ) (wide :
 
   pub put-there : (i : ℕ) → (Falling (below Lower b k) (leafAt m ys t) → Ok i ≡ located b k (leafAt m ys t)) → Puts b m n ys k v t (Err Present) ys
   put-there i is =
-      let f = found-in o k (pairs (leafAt m ys t)) (leafAt m ys t) (ascends) (lf .packed t (bl .within)) i is in
+      let f = found o k (pairs (leafAt m ys t)) (leafAt m ys t) (ascends) (lf .packed t (bl .within)) i is in
       let due : putRefusal b (n * m) (pairs ys) k ≡ Some 33 = cond-true (holds b (pairs ys) k) (Some 33) (cond (eqb (length (pairs ys)) (n * m)) (Some 32) None) (holds-at o m n ys lf k t bl ∙ f .0) in
       record { outcome = subst (λ d. Outcome {X = Span} d (Err Present)) (sym due) refl; after = refl }
     where
@@ -84,7 +74,7 @@ module _ {K R : Type 0} {b : K → K → Bool} (o : Order b) (m n : ℕ) (wide :
 
   module _ (i : ℕ) (is : Falling (below Lower b k) (leafAt m ys t) → Err i ≡ located b k (leafAt m ys t)) where
     lacks : (holds b (pairs (leafAt m ys t)) k ≡ false) × (i ≡ at o k (pairs (leafAt m ys t)))
-    lacks = missing-in o k (pairs (leafAt m ys t)) (leafAt m ys t) (row-ascends o m n ys lf k t bl) (lf .packed t (bl .within)) i is
+    lacks = missing o k (pairs (leafAt m ys t)) (leafAt m ys t) (row-ascends o m n ys lf k t bl) (lf .packed t (bl .within)) i is
 
     not-there : holds b (pairs ys) k ≡ false
     not-there = holds-at o m n ys lf k t bl ∙ lacks .0

@@ -5,16 +5,15 @@ ghost use lib.ListN.{length, getD, set, take, drop};
 ghost use Rattle.std.specs.Results.{Cases};
 ghost use Rattle.slot_rows.specs.declared.halving.Bound.the-variants.{Lower};
 ghost use Rattle.slot_rows.specs.Ranks.{below, located, Falling};
+ghost use Rattle.ordered.specs.Slots.{pairs};
 ghost use Rattle.leaf_rows.specs.Leaves.{leafAt, Packed, countAt, Leafed, Belongs};
 ghost use Rattle.leaf_rows.specs.Puts.{Puts, between};
 use crate::nearest::nearest_free;
 use ordered::Fault;
 use ordered::Key;
 use ordered::Slot;
-use slot_rows::Bound;
 use slot_rows::push_down;
 use slot_rows::push_up;
-use slot_rows::rank;
 use slot_rows::search;
 
 // Only leaves after `low` up to `high` may now begin with another key.
@@ -39,8 +38,19 @@ fn place_in<K: Key, R: Copy>(
     search(&area[start..start + width], key)
 }
 
+// How many slots of the leaf are filled.
+fn count_filled<K: Copy, R: Copy>(leaf: &[Slot<K, R>]) -> usize
+    ensures { λ n. ⌜ (Packed (now (leaf .entry)) → n ≡ length (pairs (now (leaf .entry)))) ⌝ }
+{
+    let mut n = 0;
+    while n < leaf.len() && leaf[n].filled {
+        n += 1;
+    }
+    n
+}
+
 // The first free slot of leaf r.
-fn free_slot<K: Key, R: Copy>(area: &[Slot<K, R>], width: usize, r: usize, key: K) -> usize
+fn free_slot<K: Copy, R: Copy>(area: &[Slot<K, R>], width: usize, r: usize) -> usize
     requires wide { ⌜ 0 < width ⌝ }
     requires within { ⌜ r * width + width ≤ length (now area) ⌝ }
     ensures low { λ p. ⌜ r * width ≤ p ⌝ }
@@ -48,7 +58,7 @@ fn free_slot<K: Key, R: Copy>(area: &[Slot<K, R>], width: usize, r: usize, key: 
     ensures gives { λ p. ⌜ (Packed (leafAt width (now (area .entry)) r) → countAt width (now (area .entry)) r < width → p ≡ r * width + countAt width (now (area .entry)) r) ⌝ }
 {
     let first = r * width;
-    let filled = rank(&area[first..first + width], key, Bound::Every);
+    let filled = count_filled(&area[first..first + width]);
     first + filled.min(width - 1)
 }
 
@@ -102,7 +112,7 @@ pub fn put<K: Key, R: Copy>(
     let Some(r) = nearest_free(area, width, leaves, t) else {
         return Err(Fault::Full);
     };
-    let free = free_slot(area, width, r, key);
+    let free = free_slot(area, width, r);
     let place = t * width + at;
     let slot = Slot {
         filled: true,

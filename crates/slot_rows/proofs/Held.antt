@@ -17,7 +17,7 @@ use Rattle.ordered.specs.Meaning.{Order, After, Ascending, same, lookup, holds,
 use Rattle.ordered.specs.Slots.{keep, pairs, Blank, Shows, Holds}
 use Rattle.ordered.proofs.Rows.{same-is, lookup-after, after-further, removed-absent, updated-absent}
 use Rattle.slot_rows.specs.declared.halving.Bound.{Bound}
-use Rattle.slot_rows.specs.declared.halving.Bound.the-variants.{Lower, Upper, Every}
+use Rattle.slot_rows.specs.declared.halving.Bound.the-variants.{Lower, Upper}
 use Rattle.slot_rows.specs.Ranks.{keyBelow, below, lead, Fails, Falling, there, located}
 
 abbrev pub headOf : {X : Type 0} → List X → Option X
@@ -30,13 +30,8 @@ module _ {K : Type 0} {b : K → K → Bool} (o : Order b) (k : K) where
   not-below Lower p q h n = ⊎-elim (λ t. absurd (both-ways (b p k) n (o .transitive p q k h t))) (λ t. t) (cases-bool (b q k))
   not-below Upper p q h n =
       ⊎-elim (λ t. ap not (o .transitive k p q t h)) (λ f. let z : not (b k p) ≡ true = ap not f in absurd (both-ways (not (b k p)) n z)) (cases-bool (b k p))
-  not-below Every p q h n = absurd (both-ways true n refl)
 
 module _ {K R : Type 0} where
-  pub lead-every : (row : List (K × R)) → lead (λ _. true) row ≡ length row
-  lead-every [] = refl
-  lead-every (p ∷ ps) = ap suc (lead-every ps)
-
   pub pairs-blank : (ss : List (Slot K R)) → Blank ss → pairs ss ≡ []
   pairs-blank [] h = refl
   pairs-blank (s ∷ ss) h = ap (λ t. keep t (s .key, s .value) (pairs ss)) (h .0) ∙ pairs-blank ss (h .1)
@@ -243,32 +238,3 @@ module _ {K R : Type 0} (b : K → K → Bool) (k : K) where
 
     pub there-none : length ss ≤ n → there b k ss ≡ false
     there-none l = there-past ss (subst (λ m. length ss ≤ m) is l)
-
-inside-ok : (t : Bool) (n m : ℕ) → Ok n ≡ cond t (Ok m) (Err m) → (t ≡ true) × (n ≡ m)
-inside-ok true n m e = (refl, cc)
-inside-ok false n m e = let z : _≡_ {A = ℕ} 0 1 = cc in absurd (omega arith)
-
-inside-err : (t : Bool) (n m : ℕ) → Err n ≡ cond t (Ok m) (Err m) → (t ≡ false) × (n ≡ m)
-inside-err true n m e = let z : _≡_ {A = ℕ} 0 1 = cc in absurd (omega arith)
-inside-err false n m e = (refl, cc)
-
--- what a search in slots that hold a row says of the row
-module _ {K R : Type 0} {b : K → K → Bool} (o : Order b) (k : K) (row : List (K × R)) (part : List (Slot K R)) (asc : Ascending b row) (held : Holds row part) where
-  looked : (r : Result ℕ ℕ) → (Falling (below Lower b k) part → r ≡ located b k part) → r ≡ cond (holds b row k) (Ok (at o k row)) (Err (at o k row))
-  looked r is =
-      is (falling-held o k Lower row part asc held)
-      ∙ ap (λ t. cond t (Ok (lead (below Lower b k) part)) (Err (lead (below Lower b k) part))) (there-held o k row part asc held)
-      ∙ ap (λ m. cond (holds b row k) (Ok m) (Err m)) (lead-held Lower b k row part held)
-
-  pub found-in : (n : ℕ) → (Falling (below Lower b k) part → Ok n ≡ located b k part) → (holds b row k ≡ true) × (n ≡ at o k row)
-  found-in n is = inside-ok (holds b row k) n (at o k row) (looked (Ok n) is)
-
-  pub missing-in : (n : ℕ) → (Falling (below Lower b k) part → Err n ≡ located b k part) → (holds b row k ≡ false) × (n ≡ at o k row)
-  missing-in n is = inside-err (holds b row k) n (at o k row) (looked (Err n) is)
-
--- the filled slots come first
-module _ {K R : Type 0} (b : K → K → Bool) (k : K) where
-  pub falling-every : (row : List (K × R)) (ss : List (Slot K R)) → Holds row ss → Falling (below Every b k) ss
-  falling-every [] ss h = blank-falling Every b k ss h .1
-  falling-every (p ∷ ps) [] h = absurd h
-  falling-every (p ∷ ps) (s ∷ ss) h = ((λ n. absurd (both-ways (s .filled && true) n (ap (λ t. t && true) (h .0 .0)))), falling-every ps ss (h .1))

@@ -7,13 +7,12 @@ use Rattle.std.specs.declared.result.Result.{Result}
 use Rattle.std.specs.declared.result.Result.the-variants.{Ok, Err}
 use Rattle.ordered.specs.declared.slot.Slot.{Slot}
 use Rattle.slot_rows.specs.declared.halving.Bound.{Bound}
-use Rattle.slot_rows.specs.declared.halving.Bound.the-variants.{Lower, Upper, Every}
+use Rattle.slot_rows.specs.declared.halving.Bound.the-variants.{Lower, Upper}
 
--- the key q is before k, or is not after k, or is any key
+-- the key q is before k, or is not after k
 abbrev pub keyBelow : {K : Type 0} → Bound → (K → K → Bool) → K → K → Bool
 keyBelow Lower b k q = b q k
 keyBelow Upper b k q = not (b k q)
-keyBelow Every b k q = true
 
 -- the slot is filled with such a key
 abbrev pub below : {K R : Type 0} → Bound → (K → K → Bool) → K → Slot K R → Bool

@@ -14,8 +14,6 @@ pub enum Bound {
     Lower,
     // Those with a key that is not after it.
     Upper,
-    // All that are filled.
-    Every,
 }
 
 fn is_below<K: Key, R: Copy>(slot: &Slot<K, R>, key: &K, bound: Bound) -> bool
@@ -27,7 +25,6 @@ fn is_below<K: Key, R: Copy>(slot: &Slot<K, R>, key: &K, bound: Bound) -> bool
     match bound {
         Bound::Lower => slot.key.is_before(key),
         Bound::Upper => !key.is_before(&slot.key),
-        Bound::Every => true,
     }
 }
 

@@ -27,15 +27,13 @@ use Rattle.ordered.proofs.Rows.{absent-there, length-inserted, length-updated, 
 use Rattle.slot_rows.specs.declared.halving.Bound.{Bound}
 use Rattle.slot_rows.specs.declared.halving.Bound.the-variants.{Lower}
 use Rattle.slot_rows.specs.Ranks.{keyBelow, below, lead, Falling, there, located}
-use Rattle.slot_rows.proofs.Held.{headOf, pairs-blank, pairs-held, length-held, held-take, held-at, head-past, lead-held, lead-within, first-lead, falling-held, there-held, inserted-at, found-there, found-in, missing-in, Found, at}
+use Rattle.slot_rows.proofs.Held.{headOf, pairs-blank, pairs-held, length-held, held-take, held-at, head-past, lead-held, lead-within, first-lead, falling-held, there-held, inserted-at, found-there, Found, at}
+use Rattle.slot_rows.proofs.Looks as looks
 use Rattle.straight_row.specs.declared.row.StraightRow.{StraightRow}
 use Rattle.straight_row.specs.Index.{rowIn, roomIn, Keeps}
 use Rattle.straight_row.specs.Straight.{counted, rowOf, Straight, Leaves, Edited}
 use Rattle.slot_rows.proofs.Splices.{spliced, spliced-take, spliced-drop, spliced-long, length-cut, part-front, pushed-up, pushed-down}
 use Rattle.slot_rows.proofs.Parts.{put-in, put-over, taken-out}
-
-second-inside : {K R : Type 0} (x y : K) (u v : R) → _≡_ {A = Option (K × R)} (Some (x, u)) (Some (y, v)) → u ≡ v
-second-inside {K} {R} x y u v e = let q : _≡_ {A = K × R} (x, u) (y, v) = cc in ap (λ p. p .1) q
 
 module _ {K R : Type 0} {b : K → K → Bool} (ss : List (Slot K R)) (count : ℕ) (st : Straight b ss count) where
   abbrev row : List (K × R)
@@ -67,31 +65,24 @@ module _ {K R : Type 0} {b : K → K → Bool} (ss : List (Slot K R)) (count : �
 
   module _ (o : Order b) (k : K) (part : List (Slot K R)) (e : part ≡ take count ss) where
     module _ (bound : Bound) (n : ℕ) (is : Falling (below bound b k) part → n ≡ lead (below bound b k) part) where
-      ranked : n ≡ lead (λ p. keyBelow bound b k (p .0)) row
-      ranked = is (falling-held o k bound row part (st .ascending) (part-held part e)) ∙ lead-held bound b k row part (part-held part e)
-
       pub first-past : length part ≤ n → None ≡ first (λ q. not (keyBelow bound b k q)) row
-      first-past l = sym (first-lead bound b k row ∙ ap (λ m. headOf (drop m row)) (sym ranked) ∙ head-past n row (omega (arith, l, part-long part e)))
+      first-past l = looks.first-past o k row part (st .ascending) (part-held part e) bound n is l
 
       pub first-read : (x : Slot K R) → n < length part → x ≡ getD part n x → Some (x .key, x .value) ≡ first (λ q. not (keyBelow bound b k q)) row
-      first-read x l g = sym (first-lead bound b k row ∙ ap (λ m. headOf (drop m row)) (sym ranked) ∙ held-at n row part x (omega (arith, l, part-long part e)) (part-held part e) g .1)
+      first-read x l g =
+          looks.first-read o k row part (st .ascending) (part-held part e) bound n is x l g (held-at n row part x (omega (arith, l, part-long part e)) (part-held part e) g .0)
 
     pub found : (n : ℕ) → (Falling (below Lower b k) part → Ok n ≡ located b k part) → (holds b row k ≡ true) × (n ≡ at o k row)
-    found n is = found-in o k row part (st .ascending) (part-held part e) n is
+    found n is = looks.found o k row part (st .ascending) (part-held part e) n is
 
     pub missing : (n : ℕ) → (Falling (below Lower b k) part → Err n ≡ located b k part) → (holds b row k ≡ false) × (n ≡ at o k row)
-    missing n is = missing-in o k row part (st .ascending) (part-held part e) n is
+    missing n is = looks.missing o k row part (st .ascending) (part-held part e) n is
 
     pub value-found : (n : ℕ) (x : Slot K R) → (Falling (below Lower b k) part → Ok n ≡ located b k part) → x ≡ getD part n x → Some (x .value) ≡ lookup b row k
-    value-found n x is g =
-        let f = found n is in
-        let w = found-there o k row (st .ascending) (f .0) in
-        let h = held-at n row part x (omega (arith, f .1, w .within)) (part-held part e) g in
-        let q : _≡_ {A = Option (K × R)} (Some (x .key, x .value)) (Some (k, w .value)) = sym (h .1) ∙ ap (λ m. headOf (drop m row)) (f .1) ∙ w .head in
-        ap Some (second-inside (x .key) k (x .value) (w .value) q) ∙ sym (w .found)
+    value-found n x is g = looks.value-found o k row part (st .ascending) (part-held part e) n x is g
 
     pub value-missing : (n : ℕ) → (Falling (below Lower b k) part → Err n ≡ located b k part) → None ≡ lookup b row k
-    value-missing n is = sym (absent-there b row k (missing n is .0))
+    value-missing n is = looks.value-missing o k row part (st .ascending) (part-held part e) n is
 
   -- a refused change
   pub refused : {X : Type 0} (f : Fault) (due : Option ℕ) (new : List (K × R)) (grown : ℕ) → due ≡ Some (faultNumber f) → Edited {X = X} b ss count due new grown (Err f) ss
