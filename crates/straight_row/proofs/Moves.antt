@@ -23,27 +23,17 @@ use Rattle.ordered.specs.Faults.{faultNumber, Outcome}
 use Rattle.ordered.specs.Meaning.{Order, Orderly, Ascending, lookup, holds, first, inserted, removed, updated}
 use Rattle.ordered.specs.Promises.{Changes}
 use Rattle.ordered.specs.Slots.{countable, pairs, Blank, Shows, Holds}
-use Rattle.ordered.proofs.Rows.{absent-there, length-inserted, length-updated, ascending-inserted, ascending-removed, ascending-updated}
+use Rattle.ordered.proofs.Rows.{length-inserted, length-updated, ascending-inserted, ascending-removed, ascending-updated}
 use Rattle.slot_rows.specs.declared.halving.Bound.{Bound}
 use Rattle.slot_rows.specs.declared.halving.Bound.the-variants.{Lower}
-use Rattle.slot_rows.specs.Ranks.{keyBelow, below, lead, Falling, there, located}
-use Rattle.slot_rows.proofs.Held.{headOf, pairs-blank, pairs-held, length-held, held-take, held-at, head-past, lead-held, lead-within, first-lead, falling-held, there-held, inserted-at, found-there, Found, at}
+use Rattle.slot_rows.specs.Ranks.{keyBelow, below, lead, Falling, located}
+use Rattle.slot_rows.proofs.Held.{pairs-blank, pairs-held, length-held, held-take, held-at, lead-within, inserted-at, found-there, Found, at}
+use Rattle.slot_rows.proofs.Looks as looks
 use Rattle.straight_row.specs.declared.row.StraightRow.{StraightRow}
 use Rattle.straight_row.specs.Index.{rowIn, roomIn, Keeps}
 use Rattle.straight_row.specs.Straight.{counted, rowOf, Straight, Leaves, Edited}
 use Rattle.straight_row.proofs.Edits.{spliced, spliced-take, spliced-drop, spliced-long, length-cut, part-front, pushed-up, pushed-down}
 use Rattle.straight_row.proofs.Rowed.{put-in, put-over, taken-out}
-
-inside-ok : (t : Bool) (n m : ℕ) → Ok n ≡ cond t (Ok m) (Err m) → (t ≡ true) × (n ≡ m)
-inside-ok true n m e = (refl, cc)
-inside-ok false n m e = let z : _≡_ {A = ℕ} 0 1 = cc in absurd (omega arith)
-
-inside-err : (t : Bool) (n m : ℕ) → Err n ≡ cond t (Ok m) (Err m) → (t ≡ false) × (n ≡ m)
-inside-err true n m e = let z : _≡_ {A = ℕ} 0 1 = cc in absurd (omega arith)
-inside-err false n m e = (refl, cc)
-
-second-inside : {K R : Type 0} (x y : K) (u v : R) → _≡_ {A = Option (K × R)} (Some (x, u)) (Some (y, v)) → u ≡ v
-second-inside {K} {R} x y u v e = let q : _≡_ {A = K × R} (x, u) (y, v) = cc in ap (λ p. p .1) q
 
 module _ {K R : Type 0} {b : K → K → Bool} (ss : List (Slot K R)) (count : ℕ) (st : Straight b ss count) where
   abbrev row : List (K × R)
@@ -75,37 +65,23 @@ module _ {K R : Type 0} {b : K → K → Bool} (ss : List (Slot K R)) (count : �
 
   module _ (o : Order b) (k : K) (part : List (Slot K R)) (e : part ≡ take count ss) where
     module _ (bound : Bound) (n : ℕ) (is : Falling (below bound b k) part → n ≡ lead (below bound b k) part) where
-      ranked : n ≡ lead (λ p. keyBelow bound b k (p .0)) row
-      ranked = is (falling-held o k bound row part (st .ascending) (part-held part e)) ∙ lead-held bound b k row part (part-held part e)
-
       pub first-past : length part ≤ n → None ≡ first (λ q. not (keyBelow bound b k q)) row
-      first-past l = sym (first-lead bound b k row ∙ ap (λ m. headOf (drop m row)) (sym ranked) ∙ head-past n row (omega (arith, l, part-long part e)))
+      first-past = looks.first-past o k row part (st .ascending) (part-held part e) bound n is
 
       pub first-read : (x : Slot K R) → n < length part → x ≡ getD part n x → Some (x .key, x .value) ≡ first (λ q. not (keyBelow bound b k q)) row
-      first-read x l g = sym (first-lead bound b k row ∙ ap (λ m. headOf (drop m row)) (sym ranked) ∙ held-at n row part x (omega (arith, l, part-long part e)) (part-held part e) g .1)
-
-    looked : (r : Result ℕ ℕ) → (Falling (below Lower b k) part → r ≡ located b k part) → r ≡ cond (holds b row k) (Ok (at o k row)) (Err (at o k row))
-    looked r is =
-        is (falling-held o k Lower row part (st .ascending) (part-held part e))
-        ∙ ap (λ t. cond t (Ok (lead (below Lower b k) part)) (Err (lead (below Lower b k) part))) (there-held o k row part (st .ascending) (part-held part e))
-        ∙ ap (λ m. cond (holds b row k) (Ok m) (Err m)) (lead-held Lower b k row part (part-held part e))
+      first-read x l g = looks.first-read o k row part (st .ascending) (part-held part e) bound n is x l g (held-at n row part x (omega (arith, l, part-long part e)) (part-held part e) g .0)
 
     pub found : (n : ℕ) → (Falling (below Lower b k) part → Ok n ≡ located b k part) → (holds b row k ≡ true) × (n ≡ at o k row)
-    found n is = inside-ok (holds b row k) n (at o k row) (looked (Ok n) is)
+    found = looks.found o k row part (st .ascending) (part-held part e)
 
     pub missing : (n : ℕ) → (Falling (below Lower b k) part → Err n ≡ located b k part) → (holds b row k ≡ false) × (n ≡ at o k row)
-    missing n is = inside-err (holds b row k) n (at o k row) (looked (Err n) is)
+    missing = looks.missing o k row part (st .ascending) (part-held part e)
 
     pub value-found : (n : ℕ) (x : Slot K R) → (Falling (below Lower b k) part → Ok n ≡ located b k part) → x ≡ getD part n x → Some (x .value) ≡ lookup b row k
-    value-found n x is g =
-        let f = found n is in
-        let w = found-there o k row (st .ascending) (f .0) in
-        let h = held-at n row part x (omega (arith, f .1, w .within)) (part-held part e) g in
-        let q : _≡_ {A = Option (K × R)} (Some (x .key, x .value)) (Some (k, w .value)) = sym (h .1) ∙ ap (λ m. headOf (drop m row)) (f .1) ∙ w .head in
-        ap Some (second-inside (x .key) k (x .value) (w .value) q) ∙ sym (w .found)
+    value-found = looks.value-found o k row part (st .ascending) (part-held part e)
 
     pub value-missing : (n : ℕ) → (Falling (below Lower b k) part → Err n ≡ located b k part) → None ≡ lookup b row k
-    value-missing n is = sym (absent-there b row k (missing n is .0))
+    value-missing = looks.value-missing o k row part (st .ascending) (part-held part e)
 
   -- a refused change
   pub refused : {X : Type 0} (f : Fault) (due : Option ℕ) (new : List (K × R)) (grown : ℕ) → due ≡ Some (faultNumber f) → Edited {X = X} b ss count due new grown (Err f) ss
