@@ -2,27 +2,24 @@
 use mathlib.Core.Path.{_≡_, refl, sym, ap, subst, _∙_}
 use mathlib.Core.List.{List}
 use mathlib.Core.Bool.{Bool}
-use mathlib.Core.Logic.{⊎-elim}
 use Prim.Native.Nat.{ℕ, _+_, _-_, _*_, _≤_, _<_}
 use native.Mathlib.Omega.{arith}
-use lib.ListN.{length, take, drop}
+use lib.ListN.{length, drop}
 use denote.Ref.{now}
 use borrow.Rule.Slice.Mut.{setVals}
-use Rattle.std.proofs.shelf.Tests.{cases-lt}
 use Rattle.std.specs.declared.option.Option.{Option}
 use Rattle.std.specs.declared.option.Option.the-variants.{Some, None}
 use Rattle.ordered.specs.declared.slot.Slot.{Slot}
-use Rattle.ordered.specs.Meaning.{Ascending}
 use Rattle.ordered.specs.Slots.{countable, pairs}
 use Rattle.tree_layout.specs.declared.layout.Layout.{Layout}
-use Rattle.tree_layout.specs.Levels.{leaves, area}
 use Rattle.tree_layout.specs.Rows.{LayoutOf}
-use Rattle.tree_index.specs.Index.{IndexAt, RuleAt}
+use Rattle.tree_index.specs.Index.{leafOf}
 use Rattle.tree_index.specs.Standing.{Packed}
 use Rattle.tree_index.specs.Refreshing.{Ready, Refreshed}
 use Rattle.tree_index.proofs.Stand.{index-pos, index-below}
-use Rattle.tree_index.proofs.Keys.{some-leaf, index-past, rest-same, area-same}
+use Rattle.tree_index.proofs.Keys.{some-leaf, index-past, rest-same}
 use Rattle.tree_index.proofs.Leaves.{packed-leaf}
+use Rattle.tree_index.proofs.Renews.{row-again, stands-again}
 use Rattle.array_tree.specs.declared.filling_tree.FillingTree.{FillingTree}
 use Rattle.array_tree.specs.declared.standing_tree.ArrayTree.{ArrayTree}
 use Rattle.array_tree.specs.Filling.{Filling, leafArea}
@@ -37,28 +34,18 @@ record Filled {K R : Type 0} (b : K → K → Bool) (m n : ℕ) (layout : Option
   rest : drop (baseOf layout) ys ≡ drop (baseOf layout) xs
 
 module _ {K R : Type 0} (b : K → K → Bool) (m n : ℕ) (p : Layout) (xs ys : List (Slot K R)) (r : Refreshed (p .width) (p .height) xs ys 0 (p .leaves - 1) None) where
-  same-leaves : area (p .width) (p .height) ys ≡ area (p .width) (p .height) xs
-  same-leaves = area-same (p .width) (p .height) xs ys 0 (p .leaves - 1) (r .long) (r .others)
-
-  closed-row : pairs (area (p .width) (p .height) ys) ≡ pairs (area (p .width) (p .height) xs)
-  closed-row = ap pairs same-leaves
-
   closed-rest : drop (p .base) ys ≡ drop (p .base) xs
   closed-rest = subst (λ k. drop k ys ≡ drop k xs) (sym (p .above)) (rest-same (p .width) (p .height) xs ys 0 (p .leaves - 1) (r .long) (r .others))
 
   closed-stands : Filling b m xs (Some p) n → Standing b m (Some p) ys n
   closed-stands f = record {
     laid = subst (λ l. LayoutOf m (countable l) (Some p)) (sym (r .long)) (f .laid);
-    stands = record {
-      fits = omega (arith, filling-fits f, r .long);
-      ascending = subst (Ascending b) (sym closed-row) (f .ascending);
-      packed = λ q l. subst (λ (zs : List (Slot K R)). Packed (take (p .width) (drop (q * p .width) zs))) (sym same-leaves) (packed q);
-      indexed = λ q s d a. r .done ready q (index-pos _ _ _ _ a) (omega (arith, index-below _ _ _ _ a, p .many)) s d a;
-    };
-    counted = f .counted ∙ ap length (sym closed-row);
+    -- leaf 0 and the leaves past the last have no index slot
+    stands = stands-again b (p .width) (p .height) xs ys 0 (p .leaves - 1) None r ready (f .ascending) (λ q l. packed q) (λ q out s d a. absurd (out (index-pos _ _ _ _ a) (omega (arith, index-below _ _ _ _ a, p .many))));
+    counted = f .counted ∙ ap length (sym (row-again b (p .width) (p .height) xs ys 0 (p .leaves - 1) None r));
   }
     where
-      packed : (q : ℕ) → Packed (take (p .width) (drop (q * p .width) (area (p .width) (p .height) xs)))
+      packed : (q : ℕ) → Packed (leafOf (p .width) (p .height) xs q)
       packed q = packed-leaf (p .width) (p .height) q xs _ (f .packed)
 
       ready : Ready (p .width) (p .height) xs 0 (p .leaves - 1) None
@@ -83,7 +70,7 @@ module _ {K R : Type 0} (b : K → K → Bool) (m : ℕ) (old : FillingTree K R)
   pub closed-some : (p : Layout) → old .layout ≡ Some p → Refreshed (p .width) (p .height) (now (old .slots)) ys 0 (p .leaves - 1) None → Closed b m old (record { slots = setVals ys (old .slots); layout = layout; count = old .count })
   closed-some p e r = closed (subst (λ (l : Option Layout). Filled b m (old .count) l (now (old .slots)) ys) (sym e) (record {
     keeps = closed-stands b m (old .count) p (now (old .slots)) ys r;
-    row = closed-row b m (old .count) p (now (old .slots)) ys r;
+    row = row-again b (p .width) (p .height) (now (old .slots)) ys 0 (p .leaves - 1) None r;
     rest = closed-rest b m (old .count) p (now (old .slots)) ys r;
   }))
 

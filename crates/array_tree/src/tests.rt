@@ -69,3 +69,29 @@ fn a_row_too_short_holds_nothing() -> Result<(), Fail> {
     check_eq(tree.capacity(), 0)?;
     check_eq(number(tree.feed(Mark(1), 1)), 32)
 }
+
+fn key_of(pair: Option<(Mark, u8)>) -> u8 {
+    match pair {
+        Some((key, _)) => key.0,
+        None => 0,
+    }
+}
+
+// Of nine leaves the last four are empty.
+#[test]
+fn a_closed_tree_is_searched() -> Result<(), Fail> {
+    let mut slots = [STALE; 26];
+    let mut filling = FillingTree::over(&mut slots);
+    for k in 1..10 {
+        check_eq(number(filling.feed(Mark(10 * k), k)), 0)?;
+    }
+    let tree = filling.close();
+    check_eq(tree.count(), 9)?;
+    check_eq(tree.capacity(), 18)?;
+    check_eq(tree.get(Mark(70)), Some(7))?;
+    check_eq(tree.get(Mark(71)), None)?;
+    check_eq(key_of(tree.at_or_above(Mark(40))), 40)?;
+    check_eq(key_of(tree.at_or_above(Mark(41))), 50)?;
+    check_eq(key_of(tree.above(Mark(40))), 50)?;
+    check_eq(key_of(tree.above(Mark(90))), 0)
+}

@@ -23,11 +23,11 @@ use Rattle.ordered.specs.Faults.{faultNumber, Outcome}
 use Rattle.ordered.specs.Meaning.{Order, Orderly, Ascending, lookup, holds, first, inserted, removed, updated}
 use Rattle.ordered.specs.Promises.{Changes}
 use Rattle.ordered.specs.Slots.{countable, pairs, Blank, Shows, Holds}
-use Rattle.ordered.proofs.Rows.{absent-there, length-inserted, length-updated, ascending-inserted, ascending-removed, ascending-updated}
+use Rattle.ordered.proofs.Rows.{length-inserted, length-updated, ascending-inserted, ascending-removed, ascending-updated}
 use Rattle.slot_rows.specs.declared.halving.Bound.{Bound}
 use Rattle.slot_rows.specs.declared.halving.Bound.the-variants.{Lower}
-use Rattle.slot_rows.specs.Ranks.{keyBelow, below, lead, Falling, there, located}
-use Rattle.slot_rows.proofs.Held.{headOf, pairs-blank, pairs-held, length-held, held-take, held-at, head-past, lead-held, lead-within, first-lead, falling-held, there-held, inserted-at, found-there, Found, at}
+use Rattle.slot_rows.specs.Ranks.{keyBelow, below, lead, Falling, located}
+use Rattle.slot_rows.proofs.Held.{pairs-blank, pairs-held, length-held, held-take, held-at, lead-within, inserted-at, found-there, Found, at}
 use Rattle.slot_rows.proofs.Looks as looks
 use Rattle.straight_row.specs.declared.row.StraightRow.{StraightRow}
 use Rattle.straight_row.specs.Index.{rowIn, roomIn, Keeps}
@@ -66,23 +66,22 @@ module _ {K R : Type 0} {b : K → K → Bool} (ss : List (Slot K R)) (count : �
   module _ (o : Order b) (k : K) (part : List (Slot K R)) (e : part ≡ take count ss) where
     module _ (bound : Bound) (n : ℕ) (is : Falling (below bound b k) part → n ≡ lead (below bound b k) part) where
       pub first-past : length part ≤ n → None ≡ first (λ q. not (keyBelow bound b k q)) row
-      first-past l = looks.first-past o k row part (st .ascending) (part-held part e) bound n is l
+      first-past = looks.first-past o k row part (st .ascending) (part-held part e) bound n is
 
       pub first-read : (x : Slot K R) → n < length part → x ≡ getD part n x → Some (x .key, x .value) ≡ first (λ q. not (keyBelow bound b k q)) row
-      first-read x l g =
-          looks.first-read o k row part (st .ascending) (part-held part e) bound n is x l g (held-at n row part x (omega (arith, l, part-long part e)) (part-held part e) g .0)
+      first-read x l g = looks.first-read o k row part (st .ascending) (part-held part e) bound n is x l g (held-at n row part x (omega (arith, l, part-long part e)) (part-held part e) g .0)
 
     pub found : (n : ℕ) → (Falling (below Lower b k) part → Ok n ≡ located b k part) → (holds b row k ≡ true) × (n ≡ at o k row)
-    found n is = looks.found o k row part (st .ascending) (part-held part e) n is
+    found = looks.found o k row part (st .ascending) (part-held part e)
 
     pub missing : (n : ℕ) → (Falling (below Lower b k) part → Err n ≡ located b k part) → (holds b row k ≡ false) × (n ≡ at o k row)
-    missing n is = looks.missing o k row part (st .ascending) (part-held part e) n is
+    missing = looks.missing o k row part (st .ascending) (part-held part e)
 
     pub value-found : (n : ℕ) (x : Slot K R) → (Falling (below Lower b k) part → Ok n ≡ located b k part) → x ≡ getD part n x → Some (x .value) ≡ lookup b row k
-    value-found n x is g = looks.value-found o k row part (st .ascending) (part-held part e) n x is g
+    value-found = looks.value-found o k row part (st .ascending) (part-held part e)
 
     pub value-missing : (n : ℕ) → (Falling (below Lower b k) part → Err n ≡ located b k part) → None ≡ lookup b row k
-    value-missing n is = looks.value-missing o k row part (st .ascending) (part-held part e) n is
+    value-missing = looks.value-missing o k row part (st .ascending) (part-held part e)
 
   -- a refused change
   pub refused : {X : Type 0} (f : Fault) (due : Option ℕ) (new : List (K × R)) (grown : ℕ) → due ≡ Some (faultNumber f) → Edited {X = X} b ss count due new grown (Err f) ss

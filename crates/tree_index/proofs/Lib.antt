@@ -1,3 +1,4 @@
 pub mod Stand
 pub mod Keys
 pub mod Leaves
+pub mod Renews
