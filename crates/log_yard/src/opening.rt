@@ -16,6 +16,7 @@ use logs::TagKey;
 use ordered::OrderedIndex;
 
 // Two indexes that were not opened, as they were, and why.
+#[derive(Drop)]
 pub struct Unopened<T, S> {
     pub refusal: OpenRefusal,
     pub tags: T,
