@@ -2,7 +2,7 @@
 use mathlib.Core.Path.{_≡_, refl, sym, ap, subst, _∙_}
 use mathlib.Core.List.{List}
 use mathlib.Core.Bool.{Bool}
-use Prim.Native.Nat.{ℕ, _+_, _-_, _*_, _≤_, _<_}
+use Prim.Native.Nat.{ℕ, _-_}
 use native.Mathlib.Omega.{arith}
 use lib.ListN.{length, drop}
 use denote.Ref.{now}
@@ -21,10 +21,8 @@ use Rattle.tree_index.proofs.Keys.{some-leaf, index-past, rest-same}
 use Rattle.tree_index.proofs.Leaves.{packed-leaf}
 use Rattle.tree_index.proofs.Renews.{row-again, stands-again}
 use Rattle.array_tree.specs.declared.filling_tree.FillingTree.{FillingTree}
-use Rattle.array_tree.specs.declared.standing_tree.ArrayTree.{ArrayTree}
 use Rattle.array_tree.specs.Filling.{Filling, leafArea}
-use Rattle.array_tree.specs.Standing.{Standing, Keeps, rowIn, baseOf, Closed}
-use Rattle.array_tree.specs.Trees.{Fills, rowOf}
+use Rattle.array_tree.specs.Standing.{Standing, baseOf, Closed}
 use Rattle.array_tree.proofs.Nexts.{filling-fits}
 
 -- what closing does to the slots

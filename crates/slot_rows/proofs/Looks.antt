@@ -18,7 +18,7 @@ use Rattle.ordered.proofs.Rows.{absent-there}
 use Rattle.slot_rows.specs.declared.halving.Bound.{Bound}
 use Rattle.slot_rows.specs.declared.halving.Bound.the-variants.{Lower}
 use Rattle.slot_rows.specs.Ranks.{keyBelow, below, lead, Falling, located}
-use Rattle.slot_rows.proofs.Held.{headOf, length-held, held-at, head-past, lead-held, first-lead, falling-held, there-held, found-there, Found, at}
+use Rattle.slot_rows.proofs.Held.{headOf, length-held, held-at, head-past, lead-held, first-lead, falling-held, there-held, found-there, at}
 
 inside-ok : (t : Bool) (n m : ℕ) → Ok n ≡ cond t (Ok m) (Err m) → (t ≡ true) × (n ≡ m)
 inside-ok true n m e = (refl, cc)

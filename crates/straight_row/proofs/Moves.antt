@@ -1,9 +1,8 @@
 -- What a straight row answers and does, from what it keeps.
 use mathlib.Core.Path.{_≡_, refl, sym, ap, subst, _∙_}
 use mathlib.Core.List.{List, [], _∷_, _++_}
-use mathlib.Core.Logic.{⊎-elim}
 use mathlib.Core.Bool.{Bool, true, false, not, cond}
-use Prim.Native.Nat.{ℕ, zero, suc, min, _+_, _-_, _≤_, _<_}
+use Prim.Native.Nat.{ℕ, zero, suc, _+_, _-_, _≤_, _<_}
 use native.Mathlib.Omega.{arith}
 use lib.Dec.{eqb}
 use lib.ListN.{length, getD, take, drop, set}
@@ -11,7 +10,7 @@ use borrow.Rule.Slice.Mut.{setVals}
 use borrow.Rule.Slice.PartMut.{putMid}
 use denote.Ref.{now}
 use Rattle.std.proofs.shelf.Lists.{length-append, length-take, length-take-le, length-drop, length-push, take-take, take-all, take-at, drop-at, drop-drop, set-split}
-use Rattle.std.proofs.shelf.Tests.{cases-bool, cond-true, cond-false, eq-eqb, ne-eqb}
+use Rattle.std.proofs.shelf.Tests.{cond-true, cond-false, eq-eqb, ne-eqb}
 use Rattle.std.specs.declared.option.Option.{Option}
 use Rattle.std.specs.declared.option.Option.the-variants.{Some, None}
 use Rattle.std.specs.declared.result.Result.{Result}
@@ -22,12 +21,12 @@ use Rattle.ordered.specs.Changes.{putRefusal, absentRefusal, settled, Unmoved}
 use Rattle.ordered.specs.Faults.{faultNumber, Outcome}
 use Rattle.ordered.specs.Meaning.{Order, Orderly, Ascending, lookup, holds, first, inserted, removed, updated}
 use Rattle.ordered.specs.Promises.{Changes}
-use Rattle.ordered.specs.Slots.{countable, pairs, Blank, Shows, Holds}
+use Rattle.ordered.specs.Slots.{countable, Blank, Shows, Holds}
 use Rattle.ordered.proofs.Rows.{length-inserted, length-updated, ascending-inserted, ascending-removed, ascending-updated}
 use Rattle.slot_rows.specs.declared.halving.Bound.{Bound}
 use Rattle.slot_rows.specs.declared.halving.Bound.the-variants.{Lower}
 use Rattle.slot_rows.specs.Ranks.{keyBelow, below, lead, Falling, located}
-use Rattle.slot_rows.proofs.Held.{pairs-blank, pairs-held, length-held, held-take, held-at, lead-within, inserted-at, found-there, Found, at}
+use Rattle.slot_rows.proofs.Held.{pairs-blank, pairs-held, length-held, held-take, held-at, lead-within, inserted-at, found-there, at}
 use Rattle.slot_rows.proofs.Looks as looks
 use Rattle.straight_row.specs.declared.row.StraightRow.{StraightRow}
 use Rattle.straight_row.specs.Index.{rowIn, roomIn, Keeps}

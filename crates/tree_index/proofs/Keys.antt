@@ -3,12 +3,12 @@ use mathlib.Core.Path.{_≡_, refl, sym, ap, subst, _∙_}
 use mathlib.Core.List.{List, [], _∷_, _++_}
 use mathlib.Core.Bool.{Bool, true, false, cond}
 use mathlib.Core.Logic.{_≢_, ⊎-elim}
-use Prim.Native.Nat.{ℕ, zero, suc, _+_, _-_, _*_, _≤_, _<_}
+use Prim.Native.Nat.{ℕ, suc, _+_, _-_, _*_, _≤_, _<_}
 use native.Mathlib.Omega.{arith}
 use native.Mathlib.Nat.{mul-le-mul-right, one-le-pow}
 use lib.ListN.{length, getD, set, take, drop, length-take, length-drop, length-set}
-use Rattle.std.proofs.shelf.Tests.{cases-eq, cases-lt}
-use Rattle.std.proofs.shelf.Lists.{drop-drop, drop-all, take-append-drop, getD-take, getD-drop, getD-read, getD-default, getD-set-same, getD-set-other, drop-set-lt, same-lists}
+use Rattle.std.proofs.shelf.Tests.{cases-eq}
+use Rattle.std.proofs.shelf.Lists.{drop-drop, drop-all, take-append-drop, getD-take, getD-drop, getD-set-same, getD-set-other, drop-set-lt, same-lists}
 use Rattle.std.specs.declared.option.Option.{Option}
 use Rattle.std.specs.declared.option.Option.the-variants.{Some, None}
 use Rattle.ordered.specs.declared.slot.Slot.{Slot}

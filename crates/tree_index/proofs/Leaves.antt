@@ -1,13 +1,13 @@
 -- The leaves of a tree: parts of its area, and packed where the area is.
 use mathlib.Core.Path.{_≡_, refl, sym, ap, subst, _∙_}
-use mathlib.Core.List.{List, [], _∷_, _++_}
+use mathlib.Core.List.{List, [], _∷_}
 use Prim.Native.Nat.{ℕ, zero, suc, _+_, _-_, _*_, _≤_, _<_}
 use native.Mathlib.Omega.{arith}
 use native.Mathlib.Nat.{mul-le-mul-right}
 use lib.ListN.{take, drop, length-take}
 use Rattle.std.proofs.shelf.Lists.{drop-drop, drop-take, drop-all, take-take}
 use Rattle.ordered.specs.declared.slot.Slot.{Slot}
-use Rattle.ordered.specs.Slots.{pairs, Blank, Holds}
+use Rattle.ordered.specs.Slots.{Blank, Holds}
 use Rattle.slot_rows.proofs.Held.{pairs-held}
 use Rattle.tree_layout.specs.declared.layout.Layout.{Layout}
 use Rattle.tree_layout.specs.Levels.{leaves, leafSlots, area}

@@ -1,7 +1,7 @@
 -- The index slots of a tree with m keys to a node and h levels above its leaves: which leaf each speaks of, and what it says.
 use mathlib.Core.Path.{_≡_}
 use mathlib.Core.List.{List, [], _∷_}
-use mathlib.Core.Bool.{Bool, true, false, cond}
+use mathlib.Core.Bool.{true, false, cond}
 use Prim.Native.Nat.{ℕ, suc, _+_, _*_, _^_, _<_}
 use lib.ListN.{getD, take, drop}
 use Rattle.std.specs.declared.option.Option.{Option}

@@ -4,7 +4,7 @@ use mathlib.Core.List.{List, [], _∷_}
 use mathlib.Core.Bool.{Bool, true, false, cond, not, _&&_}
 use mathlib.Core.Logic.{⊎-elim}
 use Prim.Native.Nat.{ℕ, zero, suc, _+_, _-_, _*_, _^_, _≤_, _<_}
-use native.Mathlib.Nat.{pow-zero, pow-suc, mul-le-mul-left, mul-le-mul-right, zero-mul, le-trans, one-le-pow}
+use native.Mathlib.Nat.{pow-zero, pow-suc, mul-le-mul-left, mul-le-mul-right, zero-mul, le-trans}
 use native.Mathlib.Omega.{arith}
 use native.Mathlib.Numerals.{add-one}
 use lib.ListN.{length, getD, take, drop, length-take, length-drop}
@@ -17,10 +17,9 @@ use Rattle.ordered.specs.Meaning.{After, Ascending}
 use Rattle.ordered.specs.Slots.{keep, pairs}
 use Rattle.slot_rows.specs.declared.halving.Bound.the-variants.{Upper}
 use Rattle.slot_rows.specs.Ranks.{below, lead, Fails, Falling}
-use Rattle.tree_layout.specs.declared.layout.Layout.{Layout}
 use Rattle.tree_layout.specs.Levels.{starts, leaves, treeSlots, area}
 use Rattle.tree_layout.proofs.Levels.{starts-pow, starts-up}
-use Rattle.tree_index.specs.Index.{firstKey, indexKey, place, IndexAt, Names}
+use Rattle.tree_index.specs.Index.{firstKey, indexKey, place, Names}
 use Rattle.tree_index.specs.Standing.{Stands, notAfter, Target}
 use Rattle.tree_index.proofs.Stand.{node-below, child-below}
 use Rattle.tree_index.proofs.Keys.{index-past}

@@ -2,7 +2,6 @@ use mathlib.Core.Path.{refl, sym, subst}
 use Prim.Native.Nat.{_<_}
 use native.Mathlib.Omega.{arith}
 use native.Mathlib.Nat.{le-refl}
-use Rattle.tree_layout.specs.Levels.{treeSlots}
 use Rattle.tree_index.proofs.Keys.{some-leaf}
 use Rattle.tree_search.proofs.Walks.{walked-root, walked-child, walked-leaf, node-fits, node-small, next-small, child-small, rank-few}
 use Rattle.tree_search.proofs.descent.target_leaf.Needs as need
