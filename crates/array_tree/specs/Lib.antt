@@ -1,3 +1,4 @@
 pub mod Filling
+pub mod Placing
 pub mod Standing
 pub mod Trees

@@ -1,6 +1,7 @@
 // The array tree: a complete tree of nodes in a lent row of slots.
 
 mod blanking;
+mod changes;
 mod closing;
 mod feeding;
 mod filling_tree;

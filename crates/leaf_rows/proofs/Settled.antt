@@ -4,7 +4,7 @@ use mathlib.Core.List.{List, [], _∷_, _++_}
 use mathlib.Core.Logic.{⊎-elim}
 use mathlib.Core.Bool.{Bool, true, false, cond}
 use Prim.Native.Nat.{ℕ, zero, suc, min, max, _+_, _-_, _*_, _/_, _≤_, _<_}
-use native.Mathlib.Nat.{div-mul-le-self, mul-div-cancel, mul-le-mul-right}
+use native.Mathlib.Nat.{div-mul-le-self, mul-div-cancel, mul-le-mul-left, mul-le-mul-right}
 use native.Mathlib.Omega.{arith}
 use lib.Dec.{eqb}
 use lib.ListN.{length, getD, set, take, drop}
@@ -135,3 +135,6 @@ module _ {K R : Type 0} {b : K → K → Bool} (o : Order b) (m n : ℕ) (wide :
 -- a leaf that counts lies within the row
 pub leaf-fits : (len w p : ℕ) → p < len / w → p * w + w ≤ len
 leaf-fits len w p l = omega (arith, mul-le-mul-right w l, div-mul-le-self len w, suc-times p w)
+
+pub high-below : (p w : ℕ) → 0 < w → p ≤ p * w
+high-below p w l = omega (arith, mul-le-mul-left p l)

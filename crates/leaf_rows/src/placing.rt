@@ -3,6 +3,7 @@ ghost use mathlib.Core.List.{[], _∷_, _++_};
 ghost use Prim.Native.Nat.{ℕ, _+_, _-_, _*_, _<_, _≤_};
 ghost use lib.ListN.{length, getD, set, take, drop};
 ghost use Rattle.std.specs.Results.{Cases};
+ghost use Rattle.std.specs.Vec.{made};
 ghost use Rattle.slot_rows.specs.declared.halving.Bound.the-variants.{Lower};
 ghost use Rattle.slot_rows.specs.Ranks.{below, located, Falling};
 ghost use Rattle.ordered.specs.Slots.{pairs};
@@ -98,7 +99,8 @@ pub fn put<K: Key, R: Copy>(
     key: K,
     value: R,
 ) -> Result<Span, Fault>
-    ensures { λ r. ⌜ ((n : ℕ) → Leafed (K·Key .before) (K·Key .width) n (now (area .entry)) → Belongs (K·Key .before) (K·Key .width) n (now (area .entry)) key t → Puts (K·Key .before) (K·Key .width) n (now (area .entry)) key value t r (now (area .exit))) ⌝ }
+    ensures within { λ r. ⌜ made r (λ span. span .high < length (now (area .entry))) ⌝ }
+    ensures puts { λ r. ⌜ ((n : ℕ) → Leafed (K·Key .before) (K·Key .width) n (now (area .entry)) → Belongs (K·Key .before) (K·Key .width) n (now (area .entry)) key t → Puts (K·Key .before) (K·Key .width) n (now (area .entry)) key value t r (now (area .exit))) ⌝ }
 {
     let width = K::node_width();
     let leaves = area.len() / width;
