@@ -1,8 +1,5 @@
 // The program `yard`: reads lines from standard input, and answers each at once on standard output.
 
-ghost use mathlib.Core.Path.{_≡_};
-ghost use Prim.Native.Nat.{_≤_};
-ghost use lib.ListN.{length};
 use line_input::LineBuffer;
 use line_writer::ROW;
 use logs::Body;
