@@ -89,7 +89,7 @@ module _ {K R : Type 0} {b : K → K → Bool} (ss : List (Slot K R)) (count : �
     unmoved = refl;
     straight = st;
     after = refl;
-    leaves = record { laid = st .laid; beyond = refl };
+    leaves = record { long = refl; laid = st .laid; beyond = refl };
   }
 
   -- an accepted one
@@ -103,7 +103,7 @@ module _ {K R : Type 0} {b : K → K → Bool} (ss : List (Slot K R)) (count : �
         unmoved = tt;
         straight = record { ascending = subst (Ascending b) (sym is) a; laid = subst (λ r. Holds r (counted ys)) (sym is) held; counts = ap length is ∙ c };
         after = is;
-        leaves = record { laid = held; beyond = u };
+        leaves = record { long = l; laid = held; beyond = u };
       }
 
   module _ (o : Order b) (k : K) where
@@ -219,7 +219,7 @@ module _ {K R : Type 0} (ss : List (Slot K R)) where
       let q : length zs ≡ countable (length ss) = omega (arith, e, l) in
       let r : room - 0 ≡ countable (length ss) = omega (arith, e) in (
         record { ascending = subst (Ascending b) (sym none) tt; laid = subst (λ rs. Holds rs (counted ys)) (sym none) blank; counts = ap length none },
-        record { laid = blank; beyond = drop-at zs (drop (room - 0) ss) (countable (length ss)) q ∙ ap (λ n. drop n ss) r },
+        record { long = long; laid = blank; beyond = drop-at zs (drop (room - 0) ss) (countable (length ss)) q ∙ ap (λ n. drop n ss) r },
       )
 
 -- a change of the slots as a change of the index

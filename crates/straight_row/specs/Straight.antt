@@ -27,8 +27,9 @@ pub record Straight {K R : Type 0} (b : K → K → Bool) (ss : List (Slot K R))
   pub laid : Holds (rowOf ss) (counted ss)
   pub counts : length (rowOf ss) ≡ count
 
--- The slots within the capacity hold exactly the row, and those past it are as they were.
+-- There are as many slots as before; those within the capacity hold exactly the row, and those past it are as they were.
 pub record Leaves {K R : Type 0} (row : List (K × R)) (old new : List (Slot K R)) : Type 0 where
+  pub long : length new ≡ length old
   pub laid : Holds row (counted new)
   pub beyond : drop (countable (length old)) new ≡ drop (countable (length old)) old
 
