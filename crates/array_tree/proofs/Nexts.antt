@@ -126,8 +126,8 @@ module _ {K R : Type 0} (b : K → K → Bool) (m : ℕ) (k : K) (v : R) (old : 
       → Fills b m old → Outcome (feed_refusal b (capacity_of old.layout) (row_of old) k) r
   due_here r o = subst (λ (l : Option Layout). Filling b m old.slots.now l old.count → Outcome (feed_refusal b (capacity_of l) (fed_row l old.slots.now) k) r) (sym e) o
 
-  pub fed_refused : (w : Fault) → (Filling b m (now old.slots) (Some p) old.count → Outcome {X = Unit {0}} (feed_refusal b (capacity_of (Some p)) (fed_row (Some p) (now old.slots)) k) (Err w))
-      → ys ≡ now old.slots → Fed b m k v (Err w) old (record { slots = set_vals ys old.slots; layout = old.layout; count = old.count })
+  pub fed_refused : (w : Fault) → (Filling b m old.slots.now (Some p) old.count → Outcome {X = Unit {0}} (feed_refusal b (capacity_of (Some p)) (fed_row (Some p) old.slots.now) k) (Err w))
+      → ys ≡ old.slots.now → Fed b m k v (Err w) old (record { slots = set_vals ys old.slots; layout = old.layout; count = old.count })
   fed_refused w o same = record {
     outcome = due_here (Err w) o;
     fills = subst (Fills b m) (sym stays);

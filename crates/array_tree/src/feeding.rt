@@ -16,7 +16,7 @@ fn is_after_last<K: Key, R: Copy>(
     key: K,
 ) -> bool
     requires { layout.base + count ≤ length slots.now }
-    ensures { Filling before width slots.now (Some layout) count → result ≡ follows before (fed_row (Some layout) slots.now) key }
+    ensures { Filling K.Key.before K.Key.width slots.now (Some layout) count → result ≡ follows K.Key.before (fed_row (Some layout) slots.now) key }
 {
     if count == 0 {
         return true;
@@ -32,7 +32,7 @@ fn place_next<K: Key, R: Copy>(
     key: K,
     value: R,
 ) -> Result<(), Fault>
-    ensures outcome { Filling before width slots.old (Some layout) count → Outcome (feed_refusal before (capacity_of (Some layout)) (fed_row (Some layout) slots.old) key) result }
+    ensures outcome { Filling K.Key.before K.Key.width slots.old (Some layout) count → Outcome (feed_refusal K.Key.before (capacity_of (Some layout)) (fed_row (Some layout) slots.old) key) result }
     ensures slots { slots.new ≡ settled result (slice_set slots.old (layout.base + count) (filled_with key value)) slots.old }
     ensures room { OnOk result (count < capacity_of (Some layout)) }
 {

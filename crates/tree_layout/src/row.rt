@@ -9,7 +9,7 @@ use ordered::{Key, MOST_SLOTS};
 impl Layout {
     // The layout of a row of `slots` slots for keys of the kind K, unless not even a root fits.
     pub fn of_row<K: Key>(slots: usize) -> Option<Layout>
-        ensures { LayoutOf width (countable slots) result }
+        ensures { LayoutOf K.Key.width (countable slots) result }
     {
         let counted = slots.min(MOST_SLOTS);
         let width = K::node_width();

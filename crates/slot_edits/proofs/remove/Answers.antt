@@ -11,7 +11,7 @@ returns-in-Ok g c =
     record {
       edits = λ packed asc.
           let f = found o c.args.key _ ss asc packed c.in-Ok.at c.in-Ok.ensures.gives in
-          taken o c.args.key ss packed asc c.in-Ok.at f.0 f.1 _ _ c.push-down.new.part refl refl c.push-down.ensures;
+          taken o c.args.key ss packed asc c.in-Ok.at f.0 f.1 _ _ c.push_down.new.part refl refl c.push_down.ensures;
       place = λ packed asc. (found o c.args.key _ ss asc packed c.in-Ok.at c.in-Ok.ensures.gives).1;
       within = c.in-Ok.ensures.within;
     }

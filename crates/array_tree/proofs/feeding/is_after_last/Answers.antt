@@ -6,4 +6,4 @@ pub returns-then-count-eq0 : goal.returns-then-count-eq0
 returns-then-count-eq0 g c = λ f. sym (follows_none f c.args.key c.if-count-eq0.true)
 
 pub returns : goal.returns
-returns g c = λ f. follows_last f c.args.key c.index-slots-layout.result c.is-before.result (omega arith) c.is-before.ensures
+returns g c = λ f. follows_last f c.args.key c.index-slots-layout.result c.is_before.result (omega arith) c.is_before.ensures

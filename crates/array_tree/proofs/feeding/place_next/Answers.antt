@@ -11,35 +11,35 @@ returns-then-slots g c = record {
   room = tt;
 }
 
-pub is-after-last-requires : goal.is-after-last-requires
-is-after-last-requires g c = omega (arith, layout_slots c.args.layout)
+pub is_after_last-requires : goal.is_after_last-requires
+is_after_last-requires g c = omega (arith, layout_slots c.args.layout)
 
-pub returns-then-not-is-after-last : goal.returns-then-not-is-after-last
-returns-then-not-is-after-last g c = record {
-  outcome = λ f. not_after_lem f c.args.key c.is-after-last.result (c.is-after-last.ensures f) c.if-not-is-after-last.true;
+pub returns-then-not-is_after_last : goal.returns-then-not-is_after_last
+returns-then-not-is_after_last g c = record {
+  outcome = λ f. not_after_lem f c.args.key c.is_after_last.result (c.is_after_last.ensures f) c.if-not-is_after_last.true;
   slots = search rules;
   room = tt;
 }
 
 pub returns-then-count-room : goal.returns-then-count-room
 returns-then-count-room g c = record {
-  outcome = λ f. no_room f c.args.key c.is-after-last.result (c.is-after-last.ensures f) c.if-not-is-after-last.false (omega arith);
+  outcome = λ f. no_room f c.args.key c.is_after_last.result (c.is_after_last.ensures f) c.if-not-is_after_last.false (omega arith);
   slots = search rules;
   room = tt;
 }
 
-pub overflow-add-layout : goal.overflow-add-layout
-overflow-add-layout g c = omega (arith, layout_slots c.args.layout)
+pub overflow_add-layout : goal.overflow_add-layout
+overflow_add-layout g c = omega (arith, layout_slots c.args.layout)
 
-pub offset-bounds-slots-layout : goal.offset-bounds-slots-layout
-offset-bounds-slots-layout g c = scaled_Fits _ (length c.args.slots.now) _ (omega (arith, layout_slots c.args.layout)) c.well-formed.0.1
+pub offset_bounds-slots-layout : goal.offset_bounds-slots-layout
+offset_bounds-slots-layout g c = scaled_Fits _ (length c.args.slots.now) _ (omega (arith, layout_slots c.args.layout)) c.well_formed.0.1
 
 pub bounds-slots-layout : goal.bounds-slots-layout
 bounds-slots-layout g c = omega (arith, layout_slots c.args.layout)
 
 pub returns : goal.returns
 returns g c = record {
-  outcome = λ f. accepted f c.args.key c.is-after-last.result (c.is-after-last.ensures f) c.if-not-is-after-last.false (λ e. omega arith);
+  outcome = λ f. accepted f c.args.key c.is_after_last.result (c.is_after_last.ensures f) c.if-not-is_after_last.false (λ e. omega arith);
   slots = search rules;
   room = omega arith;
 }

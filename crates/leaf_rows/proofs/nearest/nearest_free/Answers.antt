@@ -2,16 +2,16 @@ use Rattle.std.proofs.Common.{◌≡◌, ℕ, ◌+◌, ◌-◌, ◌*◌, ◌<◌
 use Rattle.std.proofs.lemmas.Bool.{ltb-true, ltb-false}
 use Rattle.leaf_rows.specs.Leaves.{leaf_at, Packed, count_at, distance}
 use Rattle.leaf_rows.proofs.Near.{near_by, tie_low, wider}
-use Rattle.leaf_rows.proofs.nearest.nearest_free.Goals.{else-far-leaves-via-then-far-leaves+else-is-free, else-far-leaves-via-else-far-leaves, else-far-t-via-then-far-t+else-is-free-2, else-far-t-via-else-far-t}
+use Rattle.leaf_rows.proofs.nearest.nearest_free.Goals.{else-far-leaves-via-then-far-leaves+else-is_free, else-far-leaves-via-else-far-leaves, else-far-t-via-then-far-t+else-is_free-2, else-far-t-via-else-far-t}
 use Rattle.leaf_rows.proofs.nearest.nearest_free.Goals as goal
 
-pub is-free-requires : goal.is-free-requires
-is-free-requires g c =
+pub is_free-requires : goal.is_free-requires
+is_free-requires g c =
     let l : c.args.t + c.loop-far.far + 1 ≤ c.args.leaves = omega (arith, c.if-far-leaves.true) in
     record { wide = c.requires.wide; within = omega (arith, mul-le-mul_right c.args.width l, c.requires.within) }
 
-pub is-free-requires-then-far-t : goal.is-free-requires-then-far-t
-is-free-requires-then-far-t g c =
+pub is_free-requires-then-far-t : goal.is_free-requires-then-far-t
+is_free-requires-then-far-t g c =
     let l : c.args.t - c.loop-far.far + 1 ≤ c.args.leaves = omega (arith, c.requires.there) in
     record { wide = c.requires.wide; within = omega (arith, mul-le-mul_right c.args.width l, c.requires.within) }
 
@@ -21,40 +21,40 @@ loop-far-preserved g c = (
   λ packed.
       let high : c.args.t + c.loop-far.far < c.args.leaves → count_at c.args.width c.args.area.now (c.args.t + c.loop-far.far) < c.args.width → ⊥ =
       elim c.else-far-leaves.branch [
-        | else-far-leaves-via-then-far-leaves+else-is-free w ↦ λ l f. omega (arith, f, ltb-false (count_at c.args.width c.args.area.now (c.args.t + c.loop-far.far)) c.args.width (sym (w.is-free.ensures (packed (c.args.t + c.loop-far.far) l)) ∙ w.if-is-free.false))
+        | else-far-leaves-via-then-far-leaves+else-is_free w ↦ λ l f. omega (arith, f, ltb-false (count_at c.args.width c.args.area.now (c.args.t + c.loop-far.far)) c.args.width (sym (w.is_free.ensures (packed (c.args.t + c.loop-far.far) l)) ∙ w.if-is_free.false))
         | else-far-leaves-via-else-far-leaves w ↦ λ l f. omega (arith, l, w.if-far-leaves.false)
       ] in
       let low : c.loop-far.far ≤ c.args.t → count_at c.args.width c.args.area.now (c.args.t - c.loop-far.far) < c.args.width → ⊥ =
       elim c.else-far-t.branch [
-        | else-far-t-via-then-far-t+else-is-free-2 w ↦ λ l f. omega (arith, f, ltb-false (count_at c.args.width c.args.area.now (c.args.t - c.loop-far.far)) c.args.width (sym (w.is-free-then-far-t.ensures (packed (c.args.t - c.loop-far.far) (omega (arith, c.requires.there)))) ∙ w.if-is-free-2.false))
+        | else-far-t-via-then-far-t+else-is_free-2 w ↦ λ l f. omega (arith, f, ltb-false (count_at c.args.width c.args.area.now (c.args.t - c.loop-far.far)) c.args.width (sym (w.is_free-then-far-t.ensures (packed (c.args.t - c.loop-far.far) (omega (arith, c.requires.there)))) ∙ w.if-is_free-2.false))
         | else-far-t-via-else-far-t w ↦ λ l f. omega (arith, l, w.if-far-t.false)
       ] in
       wider (λ q. count_at c.args.width c.args.area.now q < c.args.width) c.args.leaves c.args.t c.loop-far.far (c.loop-far.invariant.1 packed) high low,
 )
 
-pub returns-then-is-free : goal.returns-then-is-free
-returns-then-is-free g c = record {
+pub returns-then-is_free : goal.returns-then-is_free
+returns-then-is_free g c = record {
   bound = omega (arith, c.if-far-leaves.true);
   gives = λ packed. record {
     within = omega (arith, c.if-far-leaves.true);
-    free = ltb-true (count_at c.args.width c.args.area.now (c.args.t + c.loop-far.far)) c.args.width (sym (c.is-free.ensures (packed (c.args.t + c.loop-far.far) (omega (arith, c.if-far-leaves.true)))) ∙ c.if-is-free.true);
+    free = ltb-true (count_at c.args.width c.args.area.now (c.args.t + c.loop-far.far)) c.args.width (sym (c.is_free.ensures (packed (c.args.t + c.loop-far.far) (omega (arith, c.if-far-leaves.true)))) ∙ c.if-is_free.true);
     near = near_by (λ q. count_at c.args.width c.args.area.now q < c.args.width) c.args.leaves c.args.t c.loop-far.far (c.loop-far.invariant.1 packed) (c.args.t + c.loop-far.far) (omega arith);
     tie = λ p l f e. omega (arith, e);
   };
 }
 
-pub returns-then-is-free-2 : goal.returns-then-is-free-2
-returns-then-is-free-2 g c = record {
+pub returns-then-is_free-2 : goal.returns-then-is_free-2
+returns-then-is_free-2 g c = record {
   bound = omega (arith, c.requires.there);
   gives = λ packed.
       let high : c.args.t + c.loop-far.far < c.args.leaves → count_at c.args.width c.args.area.now (c.args.t + c.loop-far.far) < c.args.width → ⊥ =
       elim c.else-far-leaves.branch [
-        | else-far-leaves-via-then-far-leaves+else-is-free w ↦ λ l f. omega (arith, f, ltb-false (count_at c.args.width c.args.area.now (c.args.t + c.loop-far.far)) c.args.width (sym (w.is-free.ensures (packed (c.args.t + c.loop-far.far) l)) ∙ w.if-is-free.false))
+        | else-far-leaves-via-then-far-leaves+else-is_free w ↦ λ l f. omega (arith, f, ltb-false (count_at c.args.width c.args.area.now (c.args.t + c.loop-far.far)) c.args.width (sym (w.is_free.ensures (packed (c.args.t + c.loop-far.far) l)) ∙ w.if-is_free.false))
         | else-far-leaves-via-else-far-leaves w ↦ λ l f. omega (arith, l, w.if-far-leaves.false)
       ] in
       record {
         within = omega (arith, c.requires.there);
-        free = ltb-true (count_at c.args.width c.args.area.now (c.args.t - c.loop-far.far)) c.args.width (sym (c.is-free-then-far-t.ensures (packed (c.args.t - c.loop-far.far) (omega (arith, c.requires.there)))) ∙ c.if-is-free-2.true);
+        free = ltb-true (count_at c.args.width c.args.area.now (c.args.t - c.loop-far.far)) c.args.width (sym (c.is_free-then-far-t.ensures (packed (c.args.t - c.loop-far.far) (omega (arith, c.requires.there)))) ∙ c.if-is_free-2.true);
         near = near_by (λ q. count_at c.args.width c.args.area.now q < c.args.width) c.args.leaves c.args.t c.loop-far.far (c.loop-far.invariant.1 packed) (c.args.t - c.loop-far.far) (omega (arith, c.if-far-t.true));
         tie = tie_low (λ q. count_at c.args.width c.args.area.now q < c.args.width) c.args.leaves c.args.t c.loop-far.far (c.loop-far.invariant.1 packed) c.if-far-t.true high;
       };

@@ -11,6 +11,6 @@ returns g c = record {
       let w = c.args.width in
       let from = c.args.r * c.args.width in
       let e : from + w - from ≡ w = omega arith in
-      let n = subst (λ u. Packed (take u (drop from c.args.area.now)) → c.count-filled-filled.result ≡ length (pairs (take u (drop from c.args.area.now)))) e c.count-filled-filled.ensures h in
+      let n = subst (λ u. Packed (take u (drop from c.args.area.now)) → c.count_filled-filled.result ≡ length (pairs (take u (drop from c.args.area.now)))) e c.count_filled-filled.ensures h in
       omega (arith, n, c.min.ensures, l);
 }

@@ -5,7 +5,7 @@ use Rattle.line_reader.proofs.reader.read_request.Goals as goal
 
 pub returns : goal.returns
 returns c =
-    c.read-fields.ensures
+    c.read_fields.ensures
     ∙ accepted c.args.line.now _ c.in-Some.word (ap fields (sym c.split-fields.ensures)) (omega arith)
     (sym c.in-Some.ensures)
-    (sym c.count.ensures ∙ c.if-count-fields-after.false ∙ ap (λ (n : ℕ). 1 + n) c.fields-after.ensures)
+    (sym c.count.ensures ∙ c.if-count-fields_after.false ∙ ap (λ (n : ℕ). 1 + n) c.fields_after.ensures)

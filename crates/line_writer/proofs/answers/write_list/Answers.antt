@@ -9,8 +9,8 @@ returns c =
     let logs = c.args.logs.now in
     let n = c.min-n.result in (
       omega arith,
-      under (ap (flat_map log_line) (hundred logs n c.min-n.ensures)) c.put-logs-a.ensures.writes
-          and c.put-field-b.ensures.writes
-          and under (ap (λ (k : ℕ). tabbed (decimal k)) (hundred_counted logs n c.min-n.ensures)) c.put-small-c.ensures.writes
-          and under (ap (λ (k : ℕ). ended (decimal k)) (c.from.ensures ∙ flag c.args.more)) c.put-small.ensures.writes,
+      under (ap (flat_map log_line) (hundred logs n c.min-n.ensures)) c.put_logs-a.ensures.writes
+          and c.put_field-b.ensures.writes
+          and under (ap (λ (k : ℕ). tabbed (decimal k)) (hundred_counted logs n c.min-n.ensures)) c.put_small-c.ensures.writes
+          and under (ap (λ (k : ℕ). ended (decimal k)) (c.from.ensures ∙ flag c.args.more)) c.put_small.ensures.writes,
     )

@@ -3,4 +3,4 @@ use Rattle.line_writer.proofs.Writes.{◌and◌}
 use Rattle.line_writer.proofs.answers.write_no.Goals as goal
 
 pub returns : goal.returns
-returns c = (omega arith, c.put-field-a.ensures.writes and c.put-small-b.ensures.writes and c.put-small.ensures.writes)
+returns c = (omega arith, c.put_field-a.ensures.writes and c.put_small-b.ensures.writes and c.put_small.ensures.writes)

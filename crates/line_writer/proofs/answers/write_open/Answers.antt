@@ -3,4 +3,4 @@ use Rattle.line_writer.proofs.Writes.{◌and◌}
 use Rattle.line_writer.proofs.answers.write_open.Goals as goal
 
 pub returns : goal.returns
-returns c = (omega arith, c.put-field-a.ensures.writes and c.put-count.ensures.writes)
+returns c = (omega arith, c.put_field-a.ensures.writes and c.put_count.ensures.writes)

@@ -6,7 +6,7 @@ use Rattle.line_writer.proofs.log_lines.put_log.Goals as goal
 pub returns : goal.returns
 unfolding log_line
 returns c = record {
-  writes = c.put-field-a.ensures.writes and c.put-tag-b.ensures.writes and c.put-letter-c.ensures.writes and c.put-size-d.ensures.writes
-      and c.put-size-e.ensures.writes and c.put-small-f.ensures.writes and c.put-place.ensures.writes;
+  writes = c.put_field-a.ensures.writes and c.put_tag-b.ensures.writes and c.put_letter-c.ensures.writes and c.put_size-d.ensures.writes
+      and c.put_size-e.ensures.writes and c.put_small-f.ensures.writes and c.put_place.ensures.writes;
   next = omega arith;
 }

@@ -6,7 +6,7 @@ use Rattle.line_writer.proofs.Writes.{◌and◌, under, one_more}
 use Rattle.line_writer.proofs.log_lines.put_logs.Goals as goal
 
 pub loop-log-preserved : goal.loop-log-preserved
-loop-log-preserved c = (under (one_more c.args.logs.now c.loop-log.log-index _ (omega arith)) (c.loop-log.invariant.0 and c.put-log-at.ensures.writes), omega arith)
+loop-log-preserved c = (under (one_more c.args.logs.now c.loop-log.log-index _ (omega arith)) (c.loop-log.invariant.0 and c.put_log-at.ensures.writes), omega arith)
 
 pub returns : goal.returns
 returns c = record {

@@ -2,8 +2,8 @@ use Rattle.std.proofs.Common.{arith}
 use Rattle.line_writer.proofs.Writes.{count_digits}
 use Rattle.line_writer.proofs.parts.put_count.Goals as goal
 
-pub put-number-requires : goal.put-number-requires
-put-number-requires c = omega (arith, count_digits c.args.n c.ranges.n.fits)
+pub put_number-requires : goal.put_number-requires
+put_number-requires c = omega (arith, count_digits c.args.n c.ranges.n.fits)
 
 pub returns : goal.returns
-returns c = record { writes = c.put-number.ensures.writes; next = omega (arith, count_digits c.args.n c.ranges.n.fits) }
+returns c = record { writes = c.put_number.ensures.writes; next = omega (arith, count_digits c.args.n c.ranges.n.fits) }

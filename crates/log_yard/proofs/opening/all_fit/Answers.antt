@@ -8,19 +8,19 @@ use Rattle.log_yard.proofs.opening.all_fit.Goals.{then-not-fits-via-then-not-fit
 
 pub loop-i-init : goal.loop-i-init
 loop-i-init g c = λ kt. let row = g.T.OrderedIndex.row c.args.tags.now in
-    ([], row, refl, walk.walk_start row c.at-or-above-next.result (c.at-or-above-next.ensures.meaning.gives kt), refl, λ t r e. absurd (walk.none_is_some r e))
+    ([], row, refl, walk.walk_start row c.at_or_above-next.result (c.at_or_above-next.ensures.meaning.gives kt), refl, λ t r e. absurd (walk.none_is_some r e))
 
-pub returns-in-default : goal.returns-in-default
-returns-in-default g c = λ kt.
+pub returns-in_default : goal.returns-in_default
+returns-in_default g c = λ kt.
     let inv = c.loop-i.invariant kt in
     let row = g.T.OrderedIndex.row c.args.tags.now in
-    (λ _. subst AllFit (walk.walk_none row inv.0 inv.1 c.loop-i.next inv.2 c.in-default.is inv.3) inv.5, λ _. refl)
+    (λ _. subst AllFit (walk.walk_none row inv.0 inv.1 c.loop-i.next inv.2 c.in_default.is inv.3) inv.5, λ _. refl)
 
 pub returns-then-not-fits : goal.returns-then-not-fits
 returns-then-not-fits g c = λ kt.
     let inv = c.loop-i.invariant kt in
     let row = g.T.OrderedIndex.row c.args.tags.now in
-    let n = walk.walk_next row inv.0 inv.1 (c.in-Some.tag, c.in-Some.rest) c.loop-i.next (c.at-or-above-next.ensures.meaning.orderly kt).ascending inv.2 c.in-Some.is inv.3 in (
+    let n = walk.walk_next row inv.0 inv.1 (c.in-Some.tag, c.in-Some.rest) c.loop-i.next (c.at_or_above-next.ensures.meaning.orderly kt).ascending inv.2 c.in-Some.is inv.3 in (
       λ e. absurd (false≢true e),
       λ w.
           let ok = walk.within_mid row inv.0 (c.in-Some.tag, c.in-Some.rest) n w in
@@ -31,14 +31,14 @@ pub loop-i-preserved : goal.loop-i-preserved
 loop-i-preserved g c = λ kt.
     let inv = c.loop-i.invariant kt in
     let row = g.T.OrderedIndex.row c.args.tags.now in
-    let n = walk.walk_next row inv.0 inv.1 (c.in-Some.tag, c.in-Some.rest) c.loop-i.next (c.at-or-above-next.ensures.meaning.orderly kt).ascending inv.2 c.in-Some.is inv.3 in
+    let n = walk.walk_next row inv.0 inv.1 (c.in-Some.tag, c.in-Some.rest) c.loop-i.next (c.at_or_above-next.ensures.meaning.orderly kt).ascending inv.2 c.in-Some.is inv.3 in
     let tok : TagOk c.in-Some.tag.0 = c.if-not-fits.ensures.0 refl in
     let bok : BodyOk c.in-Some.rest.body = c.if-not-fits-2.ensures.0 refl in (
       _,
       n.left,
       n.on,
       n.head c.above-next.result (c.above-next.ensures.meaning.gives kt),
-      walk.length_push inv.0 (c.in-Some.tag, c.in-Some.rest) c.loop-i.-i inv.4,
+      walk.length_push inv.0 (c.in-Some.tag, c.in-Some.rest) c.loop-i._i inv.4,
       walk.within_push inv.0 n.left (c.in-Some.tag, c.in-Some.rest) n.split inv.5 tok bok,
     )
 

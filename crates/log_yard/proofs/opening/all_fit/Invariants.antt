@@ -8,4 +8,4 @@ use Rattle.log_yard.proofs.opening.all_fit.Given as goal
 abbrev pub invariant-loop-i : goal.invariant-loop-i
 invariant-loop-i g l = g.T.OrderedIndex.kept l.tags →
     (pre : List (Tag × Rest)) × (rest : List (Tag × Rest)) × (g.T.OrderedIndex.row l.tags ≡ pre ++ rest)
-    × (l.next ≡ head_of rest) × (length pre ≡ l.-i) × AllFit pre
+    × (l.next ≡ head_of rest) × (length pre ≡ l._i) × AllFit pre

@@ -13,17 +13,17 @@ returns-then-count-capacity g c = λ kt ks. inr (inl (
   omega (arith, c.count-2.ensures.meaning.gives kt, c.capacity.ensures.meaning.gives ks, c.if-count-capacity.true),
 ))
 
-pub returns-then-not-all-fit : goal.returns-then-not-all-fit
-returns-then-not-all-fit g c = λ kt ks. inr (inr (
+pub returns-then-not-all_fit : goal.returns-then-not-all_fit
+returns-then-not-all_fit g c = λ kt ks. inr (inr (
   refl,
   walk.empty_row (g.S.OrderedIndex.row c.args.sizes.now) (sym (c.count.ensures.meaning.gives ks) ∙ c.if-count-ne0.false),
   omega (arith, c.count-2.ensures.meaning.gives kt, c.capacity.ensures.meaning.gives ks, c.if-count-capacity.false),
-  λ w. false≢true ((c.if-not-all-fit.ensures kt).1 w),
+  λ w. false≢true ((c.if-not-all_fit.ensures kt).1 w),
 ))
 
 pub returns : goal.returns
 returns g c = λ kt ks. (
   walk.empty_row (g.S.OrderedIndex.row c.args.sizes.now) (sym (c.count.ensures.meaning.gives ks) ∙ c.if-count-ne0.false),
   omega (arith, c.count-2.ensures.meaning.gives kt, c.capacity.ensures.meaning.gives ks, c.if-count-capacity.false, (c.count-2.ensures.meaning.orderly kt).within),
-  (c.if-not-all-fit.ensures kt).0 refl,
+  (c.if-not-all_fit.ensures kt).0 refl,
 )

@@ -8,4 +8,4 @@ use Rattle.log_yard.proofs.opening.stand_all.Given as goal
 abbrev pub invariant-loop-i : goal.invariant-loop-i
 invariant-loop-i g l = g.T.OrderedIndex.kept l.tags → g.S.OrderedIndex.kept l.initial.sizes → g.S.OrderedIndex.row l.initial.sizes ≡ [] → length (g.T.OrderedIndex.row l.tags) ≤ g.S.OrderedIndex.room l.initial.sizes →
     (pre : List (Tag × Rest)) × (rest : List (Tag × Rest)) × (g.T.OrderedIndex.row l.tags ≡ pre ++ rest)
-    × (l.next ≡ head_of rest) × (length pre ≡ l.-i) × Fills g.S.OrderedIndex pre l.initial.sizes l.sizes
+    × (l.next ≡ head_of rest) × (length pre ≡ l._i) × Fills g.S.OrderedIndex pre l.initial.sizes l.sizes

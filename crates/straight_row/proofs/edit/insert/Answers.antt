@@ -28,6 +28,6 @@ returns g c = record {
       let o = order g.met.K.Key.irreflexive g.met.K.Key.transitive g.met.K.Key.total in
       let ss = c.args.slots.now in
       let m = missing ss c.args.count st o c.args.key _ c.held.ensures c.in-Err.at c.in-Err.ensures.gives in
-      put_done ss c.args.count st o c.args.key c.args.value _ c.in-Err.at c.push-up.new.part (refl, refl, refl) m.0 m.1 (omega (arith, c.min.ensures, c.if-count-min.false)) c.push-up.ensures;
+      put_done ss c.args.count st o c.args.key c.args.value _ c.in-Err.at c.push_up.new.part (refl, refl, refl) m.0 m.1 (omega (arith, c.min.ensures, c.if-count-min.false)) c.push_up.ensures;
   room = omega (arith, c.min.ensures, c.if-count-min.false);
 }

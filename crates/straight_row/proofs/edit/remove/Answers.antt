@@ -7,11 +7,11 @@ use Rattle.straight_row.proofs.edit.remove.Goals as goal
 pub bounds-slots-at : goal.bounds-slots-at
 bounds-slots-at g c = (part_within c.args.slots.now c.args.count c.in-Ok.at _ c.held.ensures c.in-Ok.ensures.within).0
 
-pub slice-bounds-push-down-count : goal.slice-bounds-push-down-count
-slice-bounds-push-down-count g c = let w = part_within c.args.slots.now c.args.count c.in-Ok.at _ c.held.ensures c.in-Ok.ensures.within in omega (arith, c.min-end.ensures, w.0, w.1)
+pub slice_bounds-push_down-count : goal.slice_bounds-push_down-count
+slice_bounds-push_down-count g c = let w = part_within c.args.slots.now c.args.count c.in-Ok.at _ c.held.ensures c.in-Ok.ensures.within in omega (arith, c.min-end.ensures, w.0, w.1)
 
-pub slice-bounds-push-down-start : goal.slice-bounds-push-down-start
-slice-bounds-push-down-start g c = let w = part_within c.args.slots.now c.args.count c.in-Ok.at _ c.held.ensures c.in-Ok.ensures.within in omega (arith, c.min-end.ensures, w.0, w.1)
+pub slice_bounds-push_down-start : goal.slice_bounds-push_down-start
+slice_bounds-push_down-start g c = let w = part_within c.args.slots.now c.args.count c.in-Ok.at _ c.held.ensures c.in-Ok.ensures.within in omega (arith, c.min-end.ensures, w.0, w.1)
 
 pub returns-in-Ok : goal.returns-in-Ok
 returns-in-Ok g c = record {
@@ -20,7 +20,7 @@ returns-in-Ok g c = record {
       let ss = c.args.slots.now in
       let f = found ss c.args.count st o c.args.key _ c.held.ensures c.in-Ok.at c.in-Ok.ensures.gives in
       let end : c.min-end.result ≡ c.args.count = omega (arith, c.min-end.ensures, within ss c.args.count st, st.counts) in
-      take_done ss c.args.count st o c.args.key _ c.in-Ok.at c.min-end.result c.push-down.new.part refl f.0 f.1 end c.push-down.ensures;
+      take_done ss c.args.count st o c.args.key _ c.in-Ok.at c.min-end.result c.push_down.new.part refl f.0 f.1 end c.push_down.ensures;
   some = let w = part_within c.args.slots.now c.args.count c.in-Ok.at _ c.held.ensures c.in-Ok.ensures.within in omega (arith, w.1);
 }
 

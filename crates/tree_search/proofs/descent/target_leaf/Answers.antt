@@ -9,32 +9,32 @@ returns-then-slots g c = record { within = omega (arith, some_leaf c.args.layout
 pub loop-level-init : goal.loop-level-init
 loop-level-init g c = walked_root g.K.Key.before g.met.K.Key.transitive c.args.layout.width c.args.layout.height c.args.layout.narrowest c.args.slots.now c.args.key
 
-pub overflow-add-from : goal.overflow-add-from
-overflow-add-from g c = let v = c.loop-level.invariant in omega (arith, node_small _ _ _ _ _ _ v.start v.within c.loop-level-test.true c.args.layout.narrowest (le_refl _), c.args.layout.small)
+pub overflow_add-from : goal.overflow_add-from
+overflow_add-from g c = let v = c.loop-level.invariant in omega (arith, node_small _ _ _ _ _ _ v.start v.within c.loop-level-test.true c.args.layout.narrowest (le_refl _), c.args.layout.small)
 
-pub overflow-mul-from : goal.overflow-mul-from
-overflow-mul-from g c = let v = c.loop-level.invariant in omega (arith, node_fits _ _ _ _ _ _ v.start v.within c.loop-level-test.true c.args.layout.narrowest (le_refl _), c.args.layout.small)
+pub overflow_mul-from : goal.overflow_mul-from
+overflow_mul-from g c = let v = c.loop-level.invariant in omega (arith, node_fits _ _ _ _ _ _ v.start v.within c.loop-level-test.true c.args.layout.narrowest (le_refl _), c.args.layout.small)
 
-pub overflow-add-from-in-loop-level : goal.overflow-add-from-in-loop-level
-overflow-add-from-in-loop-level g c = let v = c.loop-level.invariant in omega (arith, node_fits _ _ _ _ _ _ v.start v.within c.loop-level-test.true c.args.layout.narrowest (le_refl _), c.args.layout.small)
+pub overflow_add-from-in-loop-level : goal.overflow_add-from-in-loop-level
+overflow_add-from-in-loop-level g c = let v = c.loop-level.invariant in omega (arith, node_fits _ _ _ _ _ _ v.start v.within c.loop-level-test.true c.args.layout.narrowest (le_refl _), c.args.layout.small)
 
-pub offset-bounds-slots-from : goal.offset-bounds-slots-from
-offset-bounds-slots-from g c = let v = c.loop-level.invariant in omega (arith, node_fits _ _ _ _ _ _ v.start v.within c.loop-level-test.true c.args.layout.narrowest (le_refl _))
+pub offset_bounds-slots-from : goal.offset_bounds-slots-from
+offset_bounds-slots-from g c = let v = c.loop-level.invariant in omega (arith, node_fits _ _ _ _ _ _ v.start v.within c.loop-level-test.true c.args.layout.narrowest (le_refl _))
 
-pub slice-bounds-rank-end : goal.slice-bounds-rank-end
-slice-bounds-rank-end g c = let v = c.loop-level.invariant in omega (arith, node_fits _ _ _ _ _ _ v.start v.within c.loop-level-test.true c.args.layout.narrowest (le_refl _))
+pub slice_bounds-rank-end : goal.slice_bounds-rank-end
+slice_bounds-rank-end g c = let v = c.loop-level.invariant in omega (arith, node_fits _ _ _ _ _ _ v.start v.within c.loop-level-test.true c.args.layout.narrowest (le_refl _))
 
-pub overflow-mul-first : goal.overflow-mul-first
-overflow-mul-first g c = let v = c.loop-level.invariant in omega (arith, next_small _ _ _ _ _ _ v.start v.within c.loop-level-test.true c.args.layout.narrowest (le_refl _), c.args.layout.small)
+pub overflow_mul-first : goal.overflow_mul-first
+overflow_mul-first g c = let v = c.loop-level.invariant in omega (arith, next_small _ _ _ _ _ _ v.start v.within c.loop-level-test.true c.args.layout.narrowest (le_refl _), c.args.layout.small)
 
-pub overflow-add-first-in-loop-level : goal.overflow-add-first-in-loop-level
-overflow-add-first-in-loop-level g c = let v = c.loop-level.invariant in omega (arith, next_small _ _ _ _ _ _ v.start v.within c.loop-level-test.true c.args.layout.narrowest (le_refl _), c.args.layout.small)
+pub overflow_add-first-in-loop-level : goal.overflow_add-first-in-loop-level
+overflow_add-first-in-loop-level g c = let v = c.loop-level.invariant in omega (arith, next_small _ _ _ _ _ _ v.start v.within c.loop-level-test.true c.args.layout.narrowest (le_refl _), c.args.layout.small)
 
-pub overflow-mul-at : goal.overflow-mul-at
-overflow-mul-at g c = let v = c.loop-level.invariant in omega (arith, child_small _ _ _ _ _ _ v.start v.within c.loop-level-test.true c.args.layout.narrowest (le_refl _) 0 (omega arith), c.args.layout.small)
+pub overflow_mul-at : goal.overflow_mul-at
+overflow_mul-at g c = let v = c.loop-level.invariant in omega (arith, child_small _ _ _ _ _ _ v.start v.within c.loop-level-test.true c.args.layout.narrowest (le_refl _) 0 (omega arith), c.args.layout.small)
 
-pub overflow-add-at-in-loop-level : goal.overflow-add-at-in-loop-level
-overflow-add-at-in-loop-level g c =
+pub overflow_add-at-in-loop-level : goal.overflow_add-at-in-loop-level
+overflow_add-at-in-loop-level g c =
     let v = c.loop-level.invariant in
     omega (arith, child_small _ _ _ _ _ _ v.start v.within c.loop-level-test.true c.args.layout.narrowest (le_refl _) c.rank-child.result (rank_few _ _ _ _ c.rank-child.ensures.within), c.args.layout.small)
 

@@ -9,20 +9,20 @@ returns-then-slots g c = record {
   none = λ short. refl;
 }
 
-pub overflow-mul-from : goal.overflow-mul-from
-overflow-mul-from g c = omega (arith, leaf_within c.args.layout c.args.leaf c.if-leaf-layout.false, c.args.layout.small)
+pub overflow_mul-from : goal.overflow_mul-from
+overflow_mul-from g c = omega (arith, leaf_within c.args.layout c.args.leaf c.if-leaf-layout.false, c.args.layout.small)
 
-pub overflow-add-from : goal.overflow-add-from
-overflow-add-from g c = omega (arith, leaf_within c.args.layout c.args.leaf c.if-leaf-layout.false, c.args.layout.small)
+pub overflow_add-from : goal.overflow_add-from
+overflow_add-from g c = omega (arith, leaf_within c.args.layout c.args.leaf c.if-leaf-layout.false, c.args.layout.small)
 
-pub overflow-add-result : goal.overflow-add-result
-overflow-add-result g c = omega (arith, leaf_within c.args.layout c.args.leaf c.if-leaf-layout.false, c.args.layout.small)
+pub overflow_add-result : goal.overflow_add-result
+overflow_add-result g c = omega (arith, leaf_within c.args.layout c.args.leaf c.if-leaf-layout.false, c.args.layout.small)
 
-pub offset-bounds-slots-from : goal.offset-bounds-slots-from
-offset-bounds-slots-from g c = omega (arith, leaf_within c.args.layout c.args.leaf c.if-leaf-layout.false)
+pub offset_bounds-slots-from : goal.offset_bounds-slots-from
+offset_bounds-slots-from g c = omega (arith, leaf_within c.args.layout c.args.leaf c.if-leaf-layout.false)
 
-pub slice-bounds-result-end-2 : goal.slice-bounds-result-end-2
-slice-bounds-result-end-2 g c = omega (arith, leaf_within c.args.layout c.args.leaf c.if-leaf-layout.false)
+pub slice_bounds-result-end-2 : goal.slice_bounds-result-end-2
+slice_bounds-result-end-2 g c = omega (arith, leaf_within c.args.layout c.args.leaf c.if-leaf-layout.false)
 
 pub returns : goal.returns
 returns g c = record { gives = λ fit. leaf_part c.args.layout c.args.slots.now c.args.leaf c.if-leaf-layout.false; none = λ short. absurd (omega arith) }

@@ -4,7 +4,7 @@ use Rattle.array_tree.proofs.Answered.{answers_some, answers_none, above_is}
 use Rattle.array_tree.proofs.standing_tree.ArrayTree.above.Goals as goal
 
 pub returns-in-Some : goal.returns-in-Some
-returns-in-Some g c = answers_some g.K.Key.before g.K.Key.width c.args.self.now (λ (row : List _). above g.K.Key.before row c.args.key) _ c.in-Some.layout c.in-Some.is (λ st. c.first-from.ensures st ∙ above_is g.K.Key.before _ c.args.key)
+returns-in-Some g c = answers_some g.K.Key.before g.K.Key.width c.args.self.now (λ (row : List _). above g.K.Key.before row c.args.key) _ c.in-Some.layout c.in-Some.is (λ st. c.first_from.ensures st ∙ above_is g.K.Key.before _ c.args.key)
 
 pub returns-in-None : goal.returns-in-None
 returns-in-None g c = answers_none g.K.Key.before g.K.Key.width c.args.self.now (λ (row : List _). above g.K.Key.before row c.args.key) _ c.in-None.is refl

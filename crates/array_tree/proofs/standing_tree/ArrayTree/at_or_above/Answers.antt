@@ -4,7 +4,7 @@ use Rattle.array_tree.proofs.Answered.{answers_some, answers_none}
 use Rattle.array_tree.proofs.standing_tree.ArrayTree.at_or_above.Goals as goal
 
 pub returns-in-Some : goal.returns-in-Some
-returns-in-Some g c = answers_some g.K.Key.before g.K.Key.width c.args.self.now (λ (row : List _). at_or_above g.K.Key.before row c.args.key) _ c.in-Some.layout c.in-Some.is c.first-from.ensures
+returns-in-Some g c = answers_some g.K.Key.before g.K.Key.width c.args.self.now (λ (row : List _). at_or_above g.K.Key.before row c.args.key) _ c.in-Some.layout c.in-Some.is c.first_from.ensures
 
 pub returns-in-None : goal.returns-in-None
 returns-in-None g c = answers_none g.K.Key.before g.K.Key.width c.args.self.now (λ (row : List _). at_or_above g.K.Key.before row c.args.key) _ c.in-None.is refl

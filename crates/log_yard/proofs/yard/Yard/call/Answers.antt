@@ -2,25 +2,25 @@ use Rattle.std.proofs.Common.{refl, rules}
 use Rattle.log_yard.proofs.Steps as step
 use Rattle.log_yard.proofs.yard.Yard.call.Goals as goal
 
-pub returns-in-default : goal.returns-in-default
-returns-in-default g c = record {
+pub returns-in_default : goal.returns-in_default
+returns-in_default g c = record {
   law = λ page cap ls h told.
       let t = g.T.OrderedIndex in
       let s = g.S.OrderedIndex in
       let y = c.args.self.now in
       step.call_none t s cap ls h y told c.args.species c.args.diameter c.args.length page (search rules)
-      (c.in-default.ensures told.sound.sizes_kept (step.limits_of (t.row y.tags) (s.row y.sizes) told.sound.agree));
+      (c.in_default.ensures told.sound.sizes_kept (step.limits_of (t.row y.tags) (s.row y.sizes) told.sound.agree));
   still = refl;
 }
 
-pub returns-in-default-get : goal.returns-in-default-get
-returns-in-default-get g c = record {
+pub returns-in_default-get : goal.returns-in_default-get
+returns-in_default-get g c = record {
   law = λ page cap ls h told.
       let t = g.T.OrderedIndex in
       let s = g.S.OrderedIndex in
       let y = c.args.self.now in
       let first = c.in-Some.ensures told.sound.sizes_kept (step.limits_of (t.row y.tags) (s.row y.sizes) told.sound.agree) in
-      absurd (step.not_lost t s cap ls h y told c.args.species c.args.diameter c.args.length page c.in-Some.key first (c.in-default-get.ensures.meaning.gives told.sound.tags_kept));
+      absurd (step.not_lost t s cap ls h y told c.args.species c.args.diameter c.args.length page c.in-Some.key first (c.in_default-get.ensures.meaning.gives told.sound.tags_kept));
   still = refl;
 }
 

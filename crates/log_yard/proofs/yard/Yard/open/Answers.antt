@@ -7,8 +7,8 @@ returns g c = record {
   law = λ kt ks.
       let t = g.T.OrderedIndex in
       let s = g.S.OrderedIndex in
-      let ready = c.in-default.ensures kt ks in
+      let ready = c.in_default.ensures kt ks in
       let few : length (t.row c.args.tags) ≤ s.room c.args.sizes = omega (arith, ready.1) in
-      (ready, walk.opened t s c.args.tags c.args.sizes c.stand-all.new.sizes kt ready.1 ready.2 (c.stand-all.ensures kt ks ready.0 few));
+      (ready, walk.opened t s c.args.tags c.args.sizes c.stand_all.new.sizes kt ready.1 ready.2 (c.stand_all.ensures kt ks ready.0 few));
   back = tt;
 }

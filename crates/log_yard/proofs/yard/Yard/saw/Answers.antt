@@ -3,10 +3,10 @@ use Rattle.std.proofs.lemmas.Result.{err_from_is_err_and}
 use Rattle.log_yard.proofs.Steps as step
 use Rattle.log_yard.proofs.yard.Yard.saw.Goals as goal
 
-pub returns-in-err-rest : goal.returns-in-err-rest
-returns-in-err-rest g c =
-    let p = err_from_is_err_and c.from-residual.result c.from-residual.ensures.1 in
-    rw (p.1, p.2) (record { law = λ page cap ls h told. step.saw_no g.T.OrderedIndex g.S.OrderedIndex cap ls h c.args.self.now told page c.args.tag c.in-err-rest.field-0.0 (c.in-err-rest.ensures told.sound.tags_kept); still = refl })
+pub returns-in_err-rest : goal.returns-in_err-rest
+returns-in_err-rest g c =
+    let p = err_from_is_err_and c.from_residual.result c.from_residual.ensures.1 in
+    rw (p.1, p.2) (record { law = λ page cap ls h told. step.saw_no g.T.OrderedIndex g.S.OrderedIndex cap ls h c.args.self.now told page c.args.tag c.in_err-rest.field-0.0 (c.in_err-rest.ensures told.sound.tags_kept); still = refl })
 
 pub returns-in-AtSaw : goal.returns-in-AtSaw
 returns-in-AtSaw g c = record {
@@ -16,7 +16,7 @@ returns-in-AtSaw g c = record {
       step.saw_ok g.T.OrderedIndex g.S.OrderedIndex cap ls h c.args.self.now (record { tags = c.take.new.self; sizes = c.args.self.now.sizes }) told
       (c.take.ensures.meaning.orderly kt).ascending
       (c.take.ensures.meaning.stays kt) ks c.take.ensures.meaning.capacity refl
-      page c.args.tag c.in-ok-rest.rest (c.in-ok-rest.ensures kt)
+      page c.args.tag c.in_ok-rest.rest (c.in_ok-rest.ensures kt)
       c.take.result c.in-AtSaw.is refl c.take.ensures.meaning;
   still = tt;
 }
