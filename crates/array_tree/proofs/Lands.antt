@@ -1,5 +1,5 @@
 -- A standing tree with one more pair in its leaves stands again.
-use Rattle.std.proofs.Common.{◌≡◌, ℕ, zero, suc, ◌+◌, ◌-◌, ◌*◌, ◌<◌, ◌≤◌, min, max, Bool, true, false, cond, not, List, [], ◌∷◌, ◌++◌, length, get_or, take, drop, Some, None, Ok, Err, Option, Result, sym, refl, ap, ◌∙◌, subst, ⊎_elim, arith}
+use Rattle.std.proofs.Common.{◌≡◌, ℕ, suc, ◌+◌, ◌-◌, ◌*◌, ◌<◌, ◌≤◌, Bool, true, false, cond, List, [], ◌∷◌, ◌++◌, length, get_or, take, drop, Some, None, Ok, Err, Option, Result, sym, refl, ap, ◌∙◌, subst, ⊎_elim, arith}
 use borrow.Rule.Slice.PartMut.{put_mid}
 use Rattle.std.proofs.lemmas.List.{length-append, length-take-le, length-drop, take_at, drop_at, drop-drop, get_or_append_left, get_or-take, take-append-drop}
 use Rattle.std.proofs.lemmas.Bool.{both_ways, cases_lt, not-true}
@@ -11,20 +11,20 @@ use Rattle.leaf_rows.specs.declared.placing.Span.{Span}
 use Rattle.leaf_rows.specs.Puts.{Puts}
 use Rattle.ordered.specs.declared.slot.Slot.{Slot}
 use Rattle.ordered.specs.Meaning.{Order, Ascending}
-use Rattle.ordered.specs.Slots.{pairs, Holds}
+use Rattle.ordered.specs.Slots.{pairs}
 use Rattle.tree_layout.specs.Levels.{starts, leaves, leaf_slots, tree_slots, area}
 use Rattle.tree_layout.proofs.Levels.{tree_parts}
 use Rattle.tree_index.specs.Index.{leaf_of, index_key, IndexAt, Names, RuleAt}
 use Rattle.tree_index.specs.Index as index
 use Rattle.tree_index.specs.Refreshing.{Ready, Refreshed}
 use Rattle.tree_index.specs.Standing.{tree_row, Packed, Stands, not_after, Target}
-use Rattle.tree_index.proofs.Keys.{or_else, index_next, index_past, area_long, rest_same}
-use Rattle.tree_index.proofs.Renews.{row_again, stands_again}
+use Rattle.tree_index.proofs.Keys.{or_else, index_next, area_long, rest_same}
+use Rattle.tree_index.proofs.Renews.{stands_again}
 use Rattle.tree_index.proofs.Stand.{slot_low, index_pos}
 use Rattle.tree_search.specs.Belongs as search
 use Rattle.tree_search.proofs.Splits.{belongs}
 use Rattle.slot_rows.proofs.Held.{head_of}
-use Rattle.leaf_rows.specs.Leaves.{leaf_at, count_at, Leafed, Before, Headed, Belongs, PutIn, first_key}
+use Rattle.leaf_rows.specs.Leaves.{count_at, Leafed, Before, Headed, Belongs, PutIn, first_key}
 use Rattle.leaf_rows.proofs.Blocks.{key_of, first_key_lem}
 use Rattle.array_tree.specs.Placing.{Landed, Placed}
 

@@ -1,9 +1,8 @@
 -- A put into the slots of a standing tree as a put into the index.
-use Rattle.std.proofs.Common.{◌≡◌, ℕ, suc, ◌+◌, ◌-◌, ◌^◌, ◌≤◌, min, Bool, List, length, Some, None, Ok, Err, Option, Result, sym, refl, ap, ◌∙◌, subst, arith}
+use Rattle.std.proofs.Common.{◌≡◌, ℕ, ◌+◌, ◌-◌, ◌^◌, min, Bool, List, length, Some, Ok, Err, Option, Result, sym, refl, ap, subst, arith}
 use borrow.Rule.Slice.Mut.{set_vals}
 use Rattle.ordered.specs.declared.fault.Fault.{Fault}
 use Rattle.ordered.specs.declared.slot.Slot.{Slot}
-use Rattle.ordered.specs.Meaning.{inserted}
 use Rattle.ordered.specs.Promises.{Puts}
 use Rattle.ordered.specs.Slots.{countable}
 use Rattle.ordered.proofs.Rows.{length_inserted}

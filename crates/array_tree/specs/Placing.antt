@@ -1,5 +1,5 @@
 -- What putting a pair into a standing tree answers and does.
-use Rattle.std.specs.Prelude.{◌≡◌, ℕ, ◌+◌, ◌<◌, Bool, cond, List, length, drop, Some, None, Ok, Err, Option, Result, ◌==◌}
+use Rattle.std.specs.Prelude.{◌≡◌, ℕ, ◌+◌, ◌<◌, Bool, cond, List, drop, Some, None, Ok, Err, Option, Result, ◌==◌}
 use Rattle.ordered.specs.declared.fault.Fault.{Fault}
 use Rattle.ordered.specs.declared.slot.Slot.{Slot}
 use Rattle.ordered.specs.Changes.{put_refusal}

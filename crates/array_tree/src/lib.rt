@@ -1,4 +1,5 @@
 // The array tree: a complete tree of nodes in a lent row of slots.
+#![tactic(auto)]
 
 mod blanking;
 mod changes;

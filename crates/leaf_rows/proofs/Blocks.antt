@@ -1,11 +1,10 @@
 -- A block of leaves replaced by another of as many slots.
-use Rattle.std.proofs.Common.{◌≡◌, ℕ, zero, suc, ◌+◌, ◌-◌, ◌*◌, ◌<◌, ◌≤◌, Bool, true, false, cond, List, [], ◌∷◌, ◌++◌, length, take, drop, Some, None, Option, sym, refl, ap, ◌∙◌, subst, ⊎_elim, append_assoc, mul-le-mul_right, add-mul, arith, take-add}
-use lib.Seq.{take-append-add, drop-append-add}
-use Rattle.std.proofs.lemmas.List.{length-append, length-take-le, length-drop, take-take, take_at, take_all, drop-drop, drop-take, drop_at, drop-append-le, take-append-le, drop_all}
-use Rattle.std.proofs.lemmas.Bool.{cases_lt}
+use Rattle.std.proofs.Common.{◌≡◌, ℕ, zero, suc, ◌+◌, ◌-◌, ◌*◌, ◌<◌, ◌≤◌, true, false, cond, List, [], ◌∷◌, ◌++◌, length, take, drop, Some, None, Option, sym, refl, ap, ◌∙◌, subst, append_assoc, mul-le-mul_right, add-mul, arith, take-add}
+use lib.Seq.{drop-append-add}
+use Rattle.std.proofs.lemmas.List.{length-append, length-take-le, length-drop, drop-drop, drop-append-le, take-append-le}
 use Rattle.ordered.specs.declared.slot.Slot.{Slot}
-use Rattle.ordered.specs.Slots.{keep, pairs, Blank, Holds}
-use Rattle.slot_rows.proofs.Held.{head_of, pairs_held, pairs_blank, held_append}
+use Rattle.ordered.specs.Slots.{keep, pairs, Holds}
+use Rattle.slot_rows.proofs.Held.{head_of, held_append}
 use Rattle.leaf_rows.specs.Leaves.{leaf_at, Packed, count_at, first_key}
 
 pub suc_times : (p m : ℕ) → suc p * m ≡ p * m + m

@@ -1,5 +1,5 @@
 -- A pair put in with the pairs below it moved down, to the free slot of an earlier leaf.
-use Rattle.std.proofs.Common.{◌≡◌, ℕ, zero, suc, ◌+◌, ◌-◌, ◌*◌, ◌<◌, ◌≤◌, min, max, Bool, true, false, cond, eqb, List, [], ◌∷◌, ◌++◌, length, get_or, take, drop, set, sym, refl, ap, ◌∙◌, subst, append_assoc, mul-le-mul_right, add-mul, arith, length-set, take-add}
+use Rattle.std.proofs.Common.{◌≡◌, ℕ, zero, suc, ◌+◌, ◌-◌, ◌*◌, ◌<◌, ◌≤◌, Bool, false, cond, eqb, List, [], ◌∷◌, ◌++◌, length, get_or, take, drop, set, sym, refl, ap, ◌∙◌, subst, append_assoc, mul-le-mul_right, add-mul, arith, length-set, take-add}
 use lib.Seq.{take-append-add, drop-append-add}
 use borrow.Rule.Slice.PartMut.{put_mid}
 use Rattle.std.proofs.lemmas.List.{length-append, length-take-le, length-drop, length_push, take_all, take_at, take-append-drop, take-append-le, drop_at, drop-append-le, drop-drop, get_or-drop, get_or_append_left, set-append_left, set-append_right}
@@ -11,7 +11,7 @@ use Rattle.slot_rows.proofs.Held.{head_of, pairs_held, held_take, held_drop, hel
 use Rattle.leaf_rows.specs.Leaves.{leaf_at, Packed, count_at, Leafed, Before, Belongs, Nearest, PutIn}
 use Rattle.leaf_rows.proofs.Blocks.{suc_times, leaf_within, leaf_behind, leaf_long, full_block, pairs_append, key_of}
 use Rattle.leaf_rows.proofs.Cuts.{before_append, after_append}
-use Rattle.leaf_rows.proofs.Dealt.{dealt_take, dealt_packed, dealt_full}
+use Rattle.leaf_rows.proofs.Dealt.{dealt_packed, dealt_full}
 use Rattle.leaf_rows.proofs.Landing.{stretches, put_block}
 use Rattle.leaf_rows.proofs.Upward.{place_within, earlier_keys, later_keys, some_earlier, absent_whole}
 

@@ -1,14 +1,14 @@
 -- A block of leaves with one more pair in it.
-use Rattle.std.proofs.Common.{◌≡◌, ℕ, zero, suc, ◌+◌, ◌-◌, ◌*◌, ◌<◌, ◌≤◌, min, max, Bool, true, false, cond, eqb, List, [], ◌∷◌, ◌++◌, length, take, drop, is_some, Some, None, Option, sym, refl, ap, ◌∙◌, subst, ⊎_elim, append_assoc, mul-le-mul_right, add-mul, arith, take-add}
-use Rattle.std.proofs.lemmas.List.{length-append, length-take-le, length-drop, take-append-drop, drop-drop}
+use Rattle.std.proofs.Common.{◌≡◌, ℕ, zero, suc, ◌+◌, ◌-◌, ◌*◌, ◌<◌, ◌≤◌, min, max, Bool, false, cond, eqb, List, [], ◌∷◌, ◌++◌, length, take, drop, is_some, sym, refl, ap, ◌∙◌, subst, ⊎_elim, append_assoc, add-mul, arith}
+use Rattle.std.proofs.lemmas.List.{length-append, take-append-drop, drop-drop}
 use Rattle.std.proofs.lemmas.Bool.{cases_lt, ne_eqb}
 use Rattle.ordered.specs.declared.slot.Slot.{Slot}
 use Rattle.ordered.specs.Meaning.{Order, After, Ascending, lookup, holds, inserted}
-use Rattle.ordered.specs.Slots.{pairs, Holds}
+use Rattle.ordered.specs.Slots.{pairs}
 use Rattle.ordered.proofs.Rows.{ascending_inserted}
 use Rattle.slot_rows.proofs.Held.{head_of}
 use Rattle.leaf_rows.specs.Leaves.{leaf_at, Packed, count_at, Leafed, Before, Belongs, Nearest, first_key, PutIn}
-use Rattle.leaf_rows.proofs.Blocks.{suc_times, leaf_before, leaf_inside, leaf_inside_old, leaf_after, drop_after, drop_before, pairs_append, key_of, first_key_lem}
+use Rattle.leaf_rows.proofs.Blocks.{suc_times, leaf_before, leaf_inside, leaf_after, drop_after, drop_before, pairs_append, key_of, first_key_lem}
 use Rattle.leaf_rows.proofs.Cuts.{inserted_between, lookup_between}
 
 -- three stretches of a row of slots

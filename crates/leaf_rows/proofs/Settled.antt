@@ -1,27 +1,26 @@
 -- What a put answers, from where its key belongs.
-use Rattle.std.proofs.Common.{◌≡◌, ℕ, zero, suc, ◌+◌, ◌-◌, ◌*◌, ◌/◌, ◌<◌, ◌≤◌, min, max, Bool, true, false, cond, eqb, List, [], ◌∷◌, ◌++◌, length, get_or, take, drop, set, Some, None, Ok, Err, Option, Result, sym, refl, ap, ◌∙◌, subst, ⊎_elim, mul-le-mul_right, mul-le-mul_left, div-mul-le_self, mul-div_cancel, arith, MatchResult}
+use Rattle.std.proofs.Common.{◌≡◌, ℕ, suc, ◌+◌, ◌-◌, ◌*◌, ◌/◌, ◌<◌, ◌≤◌, min, Bool, true, false, cond, eqb, List, [], ◌∷◌, ◌++◌, length, get_or, take, drop, set, Some, None, Ok, Err, Result, sym, refl, ap, ◌∙◌, subst, ⊎_elim, mul-le-mul_right, mul-le-mul_left, div-mul-le_self, mul-div_cancel, arith, MatchResult}
 use Rattle.std.proofs.lemmas.List.{length-take-le, length-drop, take_all}
 use Rattle.std.proofs.lemmas.Result.{MatchResult-weaker}
 use Rattle.std.proofs.lemmas.Bool.{cond-true, cond-false, eq-eqb, ne_eqb, cases_lt}
-use Rattle.ordered.specs.declared.fault.Fault.{Fault}
 use Rattle.ordered.specs.declared.fault.Fault.TheVariants.{Full, Present}
 use Rattle.ordered.specs.declared.slot.Slot.{Slot}
 use Rattle.ordered.specs.Changes.{put_refusal}
 use Rattle.ordered.specs.Faults.{Outcome}
-use Rattle.ordered.specs.Meaning.{Order, Ascending, holds, inserted}
-use Rattle.ordered.specs.Slots.{keep, pairs, Shows, Holds}
+use Rattle.ordered.specs.Meaning.{Order, Ascending, holds}
+use Rattle.ordered.specs.Slots.{keep, pairs, Shows}
 use Rattle.ordered.proofs.Rows.{length_inserted}
 use Rattle.slot_rows.specs.declared.halving.Bound.TheVariants.{Lower}
 use Rattle.slot_rows.specs.Ranks.{below, Falling, located}
 use Rattle.slot_rows.proofs.Held.{length_held, at}
 use Rattle.slot_rows.proofs.Looks.{found, missing}
 use Rattle.leaf_rows.specs.declared.placing.Span.{Span}
-use Rattle.leaf_rows.specs.Leaves.{leaf_at, Packed, count_at, Leafed, Belongs, distance, Nearest, PutIn}
+use Rattle.leaf_rows.specs.Leaves.{leaf_at, count_at, Leafed, Belongs, distance, Nearest, PutIn}
 use Rattle.leaf_rows.specs.Puts.{Puts, between}
 use Rattle.leaf_rows.proofs.Blocks.{suc_times, leaf_long, full_block}
 use Rattle.leaf_rows.proofs.Downward.{down_slots}
 use Rattle.leaf_rows.proofs.Landing.{holds_at}
-use Rattle.leaf_rows.proofs.Upward.{place_within, row_ascends, absent_whole, up_slots}
+use Rattle.leaf_rows.proofs.Upward.{place_within, row_ascends, up_slots}
 
 pub leaves_are : (len w n : ℕ) → 0 < w → len ≡ n * w → len / w ≡ n
 leaves_are len w n p e = ap (λ u. u / w) e ∙ mul-div_cancel n p

@@ -1,5 +1,5 @@
 -- A pair put in with the pairs above it moved up, to the free slot of the same leaf or of a later one.
-use Rattle.std.proofs.Common.{◌≡◌, ℕ, zero, suc, ◌+◌, ◌-◌, ◌*◌, ◌<◌, ◌≤◌, min, max, Bool, true, false, cond, eqb, List, [], ◌∷◌, ◌++◌, length, take, drop, sym, refl, ap, ◌∙◌, subst, ⊎_elim, append_assoc, mul-le-mul_right, add-mul, arith, take-add}
+use Rattle.std.proofs.Common.{◌≡◌, ℕ, suc, ◌+◌, ◌-◌, ◌*◌, ◌<◌, ◌≤◌, Bool, false, cond, eqb, List, ◌∷◌, ◌++◌, length, take, drop, sym, ap, ◌∙◌, subst, ⊎_elim, append_assoc, mul-le-mul_right, add-mul, arith, take-add}
 use borrow.Rule.Slice.PartMut.{put_mid}
 use Rattle.std.proofs.lemmas.List.{length-append, length-take-le, length-drop, take-take, take-append-drop, take-append-le, drop-append-le, drop-drop}
 use Rattle.std.proofs.lemmas.Bool.{cases_lt, eq-eqb, ne_eqb}
@@ -10,8 +10,8 @@ use Rattle.slot_rows.specs.declared.halving.Bound.TheVariants.{Lower}
 use Rattle.slot_rows.proofs.Held.{head_of, pairs_held, lead_within, at}
 use Rattle.slot_rows.proofs.Parts.{put_in}
 use Rattle.slot_rows.proofs.Splices.{spliced, spliced_long, part_front, pushed_up}
-use Rattle.leaf_rows.specs.Leaves.{leaf_at, Packed, count_at, Leafed, Before, Headed, Belongs, Nearest, PutIn}
-use Rattle.leaf_rows.proofs.Blocks.{suc_times, leaf_inside_old, full_block, pairs_append, key_of}
+use Rattle.leaf_rows.specs.Leaves.{leaf_at, Packed, count_at, Leafed, Before, Belongs, Nearest, PutIn}
+use Rattle.leaf_rows.proofs.Blocks.{suc_times, full_block, pairs_append, key_of}
 use Rattle.leaf_rows.proofs.Cuts.{before_append, after_append, ascending_parts, before_place, after_place, place_some}
 use Rattle.leaf_rows.proofs.Dealt.{dealt_packed, dealt_full, dealt_last}
 use Rattle.leaf_rows.proofs.Landing.{stretches, head_front, rows_at, holds_at, put_block}

@@ -1,4 +1,5 @@
 // Pairs put into and taken out of the leaves of a tree: a lent row of slots, one leaf after the other.
+#![tactic(auto)]
 
 mod nearest;
 mod placing;

@@ -1,4 +1,5 @@
 // What a line of the yard's format says, or the first reason why it is refused.
+#![tactic(auto)]
 
 mod draft;
 mod fields;

@@ -1,5 +1,6 @@
 // What lines say and how answers look, by examples. They stand apart from the crates that they try, since a
 // crate with tests is proved twice.
+#![tactic(auto)]
 
 #[cfg(test)]
 mod tests {
@@ -44,7 +45,7 @@ mod tests {
         let mut row = [0u8; ROW];
         let written = write_no(&mut row, 14, 3).ok().unwrap_or(0);
         assert_eq!(rt; written, 8);
-        assert_eq!(rt; &row[0..9], b"NO\t14\t3\n\0");
+        assert_eq!(rt; &row[0..9], b"NO\t14\t3\n\0".as_slice());
         assert!(rt; write_ok(&mut [0u8; 8], 7).is_err());
     }
 
@@ -66,8 +67,11 @@ mod tests {
         let mut row = [0u8; ROW];
         let written = write_list(&mut row, &[LARGEST], true).ok().unwrap_or(0);
         assert_eq!(rt; written, 43);
-        assert_eq!(rt; &row[0..35], b"LOG\t4294967295\tD\t1200\t1500\t200\tSAW\n");
-        assert_eq!(rt; &row[35..44], b"END\t1\t1\n\0");
+        assert_eq!(rt;
+            &row[0..35],
+            b"LOG\t4294967295\tD\t1200\t1500\t200\tSAW\n".as_slice()
+        );
+        assert_eq!(rt; &row[35..44], b"END\t1\t1\n\0".as_slice());
         let written = write_list(&mut row, &[LARGEST; 101], false)
             .ok()
             .unwrap_or(0);
@@ -79,6 +83,6 @@ mod tests {
         let mut row = [0u8; ROW];
         let written = write_open(&mut row, 240).ok().unwrap_or(0);
         assert_eq!(rt; written, 9);
-        assert_eq!(rt; &row[0..10], b"OPEN\t240\n\0");
+        assert_eq!(rt; &row[0..10], b"OPEN\t240\n\0".as_slice());
     }
 }

@@ -1,4 +1,5 @@
 // The lines of a yard's answers, written into a row of bytes.
+#![tactic(auto)]
 
 mod answers;
 mod log_lines;

@@ -1,6 +1,6 @@
 -- The walk to the first standing log that fits.
-use Rattle.std.proofs.Common.{◌≡◌, ℕ, zero, suc, ◌+◌, ◌<◌, ◌≤◌, Bool, true, false, cond, not, eqb, ltb, leb, ◌⊎◌, List, [], ◌∷◌, Some, None, Option, sym, refl, ap, ◌∙◌, subst, inl, inr, ⊎_elim, arith}
-use Rattle.std.proofs.lemmas.Bool.{not-true, not_from_false, both_ways, ltb-true, ltb-false, lt-ltb, le-ltb, cases_lt, not-false}
+use Rattle.std.proofs.Common.{◌≡◌, ℕ, ◌<◌, ◌≤◌, Bool, true, false, not, ◌⊎◌, List, Some, None, sym, ap, ◌∙◌, inl, inr, ⊎_elim, arith}
+use Rattle.std.proofs.lemmas.Bool.{not-true, not_from_false, both_ways, le-ltb}
 use Rattle.std.proofs.lemmas.Bool.Decides.{nat_tests}
 use Rattle.ordered.specs.Meaning.{lookup, Ascending, First, at_or_above}
 use Rattle.ordered.proofs.Lookups.{first_some, first_none}
@@ -8,7 +8,7 @@ use Rattle.logs.specs.declared.species.Species.{Species}
 use Rattle.logs.specs.declared.keys.Size.{Size}
 use Rattle.logs.specs.Orders.{size_before, lex}
 use Rattle.logs.specs.Codes.{code}
-use Rattle.log_yard.specs.Fitting.{LimitsOf, KeyFits, FirstFit}
+use Rattle.log_yard.specs.Fitting.{KeyFits, FirstFit}
 use Rattle.logs.specs.Lex.{code_injective}
 use Rattle.log_yard.proofs.Rows.{size_order}
 

@@ -1,6 +1,6 @@
 -- What a LIST shows, out of the row of the size index.
-use Rattle.std.proofs.Common.{◌≡◌, ℕ, zero, suc, ◌+◌, ◌<◌, ◌≤◌, Bool, true, false, cond, not, ◌&&◌, eqb, ltb, leb, ◌⊎◌, List, [], ◌∷◌, ◌++◌, length, take, drop, set, is_some, Some, None, Ok, Err, Option, Result, sym, refl, ap, ◌∙◌, subst, inl, inr, ⊎_elim, append_assoc, arith, length-append, take-append-drop, length-take}
-use Rattle.std.proofs.lemmas.Bool.{not-true, not_from_false, both_ways, cases_Bool, cond-true, cond-false, and_parts, and_from, eqb-true, eq-eqb, leb-true, le-leb, false≢true, true≢false, lt-ltb}
+use Rattle.std.proofs.Common.{◌≡◌, ℕ, suc, ◌+◌, ◌<◌, ◌≤◌, Bool, true, false, cond, not, eqb, ltb, leb, ◌⊎◌, List, [], ◌∷◌, ◌++◌, length, take, drop, set, is_some, Some, None, Ok, Option, sym, refl, ap, ◌∙◌, subst, inl, inr, ⊎_elim, append_assoc, arith, length-append, take-append-drop, length-take}
+use Rattle.std.proofs.lemmas.Bool.{both_ways, cases_Bool, cond-true, cond-false, and_parts, and_from, eqb-true, eq-eqb, leb-true, le-leb, lt-ltb}
 use Rattle.std.proofs.lemmas.Bool.Decides.{nat_tests}
 use Rattle.ordered.specs.Meaning.{lookup, Ascending, After, first, same}
 use Rattle.ordered.proofs.Lookups.{same_self, less_apart, after_all}
@@ -8,7 +8,7 @@ use Rattle.ordered.proofs.Rows.{same_is}
 use Rattle.logs.specs.declared.species.Species.{Species}
 use Rattle.logs.specs.declared.keys.Size.{Size}
 use Rattle.logs.specs.declared.log.Log.{Log}
-use Rattle.logs.specs.Orders.{size_before, lex}
+use Rattle.logs.specs.Orders.{size_before}
 use Rattle.logs.specs.Codes.{code}
 use Rattle.log_yard.specs.Law.{Among, Later, InOrder}
 use Rattle.log_yard.specs.Pages.{in_range, to_log, runs, drop_to, next_of, start, range}

@@ -1,9 +1,9 @@
 -- The walk over the loaded logs.
-use Rattle.std.proofs.Common.{◌≡◌, ℕ, zero, suc, ◌+◌, ◌<◌, ◌≤◌, min, Bool, true, false, cond, not, eqb, ltb, ◌⊎◌, List, [], ◌∷◌, ◌++◌, length, Some, None, Option, Result, sym, refl, ap, ◌∙◌, subst, inl, inr, ⊎_elim, append_assoc, append-nil, arith, length-append}
+use Rattle.std.proofs.Common.{◌≡◌, ℕ, suc, ◌+◌, ◌<◌, ◌≤◌, min, cond, not, eqb, List, [], ◌∷◌, ◌++◌, length, Some, None, Option, Result, sym, refl, ap, ◌∙◌, subst, ⊎_elim, append_assoc, append-nil, arith, length-append}
 use Rattle.std.proofs.lemmas.Bool.{cases_Bool, cond-true, cond-false, eqb-true, le-ltb}
 use Rattle.ordered.specs.declared.fault.Fault.{Fault}
 use Rattle.ordered.specs.declared.index.OrderedIndex.{Ghosts}
-use Rattle.ordered.specs.Meaning.{lookup, first, at_or_above, above, inserted, Ascending}
+use Rattle.ordered.specs.Meaning.{lookup, at_or_above, above, inserted, Ascending}
 use Rattle.ordered.proofs.Walks.{head_of}
 use Rattle.log_yard.specs.Sizes.{tally}
 use Rattle.ordered.specs.Promises.{Puts}
@@ -14,16 +14,14 @@ use Rattle.logs.specs.declared.log.Place.TheVariants as place
 use Rattle.logs.specs.declared.keys.Tag.{Tag}
 use Rattle.logs.specs.declared.keys.Size.{Size}
 use Rattle.logs.specs.declared.log.Rest.{Rest}
-use Rattle.logs.specs.declared.log.Body.{Body}
-use Rattle.log_yard.specs.declared.yard.Yard.{Yard}
 use Rattle.logs.specs.Orders.{tag_before, size_before}
 use Rattle.log_yard.specs.Sizes.{size_of, stands}
 use Rattle.logs.specs.Limits.{TagOk, BodyOk}
-use Rattle.log_yard.specs.History.{standing, at_saw, Loaded, log_at, placed, body_of, spot_of, loaded_at}
-use Rattle.log_yard.specs.Tells.{at, bay_at, Tells, Agree}
+use Rattle.log_yard.specs.History.{standing, at_saw, placed, body_of, spot_of}
+use Rattle.log_yard.specs.Tells.{at, bay_at, Tells}
 use Rattle.log_yard.specs.Opens.{AllFit, Stood, Fills}
 use Rattle.log_yard.proofs.Counts.{tag_order}
-use Rattle.log_yard.proofs.Rows.{size_order, at_inserted, bays_after, sizes_put}
+use Rattle.log_yard.proofs.Rows.{at_inserted, bays_after, sizes_put}
 use Rattle.log_yard.proofs.Steps.{rest_is, at_cases}
 use Rattle.ordered.proofs.Done.{put_done}
 

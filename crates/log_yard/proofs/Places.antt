@@ -1,14 +1,13 @@
 -- Where each log is after one more call.
-use Rattle.std.proofs.Common.{◌≡◌, ℕ, Bool, true, false, cond, eqb, ◌⊎◌, List, [], ◌∷◌, Some, None, Ok, Err, Option, Result, sym, refl, ap, ◌∙◌, subst, inl, inr, ⊎_elim, arith}
+use Rattle.std.proofs.Common.{◌≡◌, ℕ, Bool, true, false, cond, eqb, List, ◌∷◌, Some, None, Ok, Option, sym, refl, ap, ◌∙◌, ⊎_elim}
 use Rattle.std.proofs.lemmas.Bool.{eqb-true, cases_Bool, cond-true, cond-false}
 use Rattle.logs.specs.declared.species.Species.{Species}
-use Rattle.logs.specs.declared.log.Place.{Place}
 use Rattle.logs.specs.declared.log.Place.TheVariants as place
 use Rattle.logs.specs.declared.log.Rest.{Rest}
 use Rattle.logs.specs.declared.log.Body.{Body}
 use Rattle.logs.specs.declared.log.Log.{Log}
 use Rattle.logs.specs.declared.call.Call.TheVariants.{Arrive, Withdraw, Call as Calls, Saw, Back}
-use Rattle.log_yard.specs.declared.answer.Answer.TheVariants.{Done, Found, Listed}
+use Rattle.log_yard.specs.declared.answer.Answer.TheVariants.{Done, Found}
 use Rattle.log_yard.specs.History.{Loaded, History, Spot, standing, at_saw, gone, log_at, placed, or_else, value_or, body, spot, last_change, last_given, spot_of, body_of, loaded_at}
 use Rattle.log_yard.specs.History.{event}
 

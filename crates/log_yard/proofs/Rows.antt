@@ -1,23 +1,18 @@
 -- What a change does to both rows.
-use Rattle.std.proofs.Common.{◌≡◌, ℕ, zero, suc, ◌+◌, ◌<◌, ◌≤◌, Bool, true, false, cond, not, ◌&&◌, eqb, ltb, leb, ◌⊎◌, List, [], ◌∷◌, length, is_some, Some, None, Ok, Err, Option, Result, sym, refl, ap, ◌∙◌, subst, inl, inr, ⊎_elim, arith}
-use Rattle.std.proofs.lemmas.Bool.{cases_eq, eq-eqb, ne_eqb, eqb-true, eqb-false, cond-false, cond-true, false≢true, cases_Bool}
+use Rattle.std.proofs.Common.{◌≡◌, ℕ, Bool, true, false, cond, ◌&&◌, eqb, List, is_some, Some, None, Option, sym, refl, ap, ◌∙◌, ⊎_elim, arith}
+use Rattle.std.proofs.lemmas.Bool.{eqb-true, eqb-false, cond-false, cond-true, cases_Bool}
 use Rattle.std.proofs.lemmas.Bool.Decides.{nat_tests}
-use Rattle.ordered.specs.Meaning.{Order, lookup, same, Ascending, inserted, removed, updated}
-use Rattle.log_yard.specs.Sizes.{tally}
-use Rattle.ordered.proofs.Lookups.{lookup_inserted, lookup_removed, lookup_updated, length_removed, same_self, same_not}
-use Rattle.ordered.proofs.Rows.{length_inserted, length_updated, same_is}
-use Rattle.log_yard.proofs.Tallies.{tally_inserted, tally_removed, tally_updated}
-use Rattle.logs.specs.declared.log.Place.{Place}
+use Rattle.ordered.specs.Meaning.{Order, lookup, same, inserted, removed, updated}
+use Rattle.ordered.proofs.Lookups.{lookup_inserted, lookup_removed, lookup_updated, same_not}
 use Rattle.logs.specs.declared.log.Place.TheVariants as place
 use Rattle.logs.specs.declared.keys.Tag.{Tag}
 use Rattle.logs.specs.declared.keys.Size.{Size}
 use Rattle.logs.specs.declared.log.Rest.{Rest}
 use Rattle.logs.specs.declared.log.Body.{Body}
 use Rattle.logs.specs.Orders.{tag_before, size_before, lex}
-use Rattle.log_yard.specs.Sizes.{size_of, stands}
-use Rattle.logs.specs.Limits.{TagOk, BodyOk}
+use Rattle.log_yard.specs.Sizes.{size_of}
 use Rattle.logs.specs.Codes.{code}
-use Rattle.log_yard.specs.Tells.{at, bay_at, Agree}
+use Rattle.log_yard.specs.Tells.{at, bay_at}
 use Rattle.logs.specs.Lex.{size_transitive, size_total}
 use Rattle.log_yard.proofs.Counts.{tag_order, same_tag}
 

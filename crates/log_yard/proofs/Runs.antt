@@ -13,7 +13,7 @@ use Rattle.log_yard.specs.declared.yard.Yard.{Yard}
 use Rattle.log_yard.specs.History.{Loaded, History, Event}
 use Rattle.log_yard.specs.Law.{Lawful}
 use Rattle.log_yard.specs.Tells.{Stays, Tells, Obeys, ObeysAll}
-use Rattle.log_yard.specs.Law.{Runs, LawfulRun, extended, calls_of, answers_of}
+use Rattle.log_yard.specs.Law.{LawfulRun, extended, calls_of, answers_of}
 
 calls_push : (es : List Event) (e : Event) → calls_of (es ++ (e ∷ [])) ≡ calls_of es ++ (e.call ∷ [])
 calls_push [] e = refl

@@ -1,10 +1,10 @@
 -- What a change of one log does to what the yard tells.
-use Rattle.std.proofs.Common.{◌≡◌, ℕ, zero, suc, ◌+◌, ◌<◌, ◌≤◌, min, Bool, true, false, cond, not, ◌&&◌, eqb, ltb, leb, ◌⊎◌, List, [], ◌∷◌, length, is_some, Some, None, Ok, Err, Option, Result, sym, refl, ap, ◌∙◌, subst, inl, inr, ⊎_elim, arith}
-use Rattle.std.proofs.lemmas.Bool.{cases_eq, eq-eqb, ne_eqb, eqb-true, eqb-false, cond-false, cond-true, false≢true, true≢false, cases_Bool, lt-leb}
+use Rattle.std.proofs.Common.{◌≡◌, ℕ, ◌<◌, ◌≤◌, min, Bool, true, false, cond, ◌&&◌, eqb, ◌⊎◌, List, ◌∷◌, length, is_some, Some, None, Ok, Err, Option, Result, sym, refl, ap, ◌∙◌, subst, inl, inr, ⊎_elim, arith}
+use Rattle.std.proofs.lemmas.Bool.{eqb-true, cond-false, cond-true, true≢false, cases_Bool}
 use Rattle.ordered.specs.declared.fault.Fault.{Fault}
 use Rattle.ordered.proofs.Done.{put_done, set_done, take_done}
 use Rattle.ordered.specs.declared.index.OrderedIndex.{Ghosts}
-use Rattle.ordered.specs.Meaning.{Order, lookup, same, Ascending, inserted, removed, updated}
+use Rattle.ordered.specs.Meaning.{lookup, same, Ascending, inserted, updated}
 use Rattle.log_yard.specs.Sizes.{tally}
 use Rattle.ordered.specs.Promises.{Puts, Sets, Takes}
 use Rattle.ordered.proofs.Rows.{length_inserted, length_updated, same_is}
@@ -18,14 +18,12 @@ use Rattle.logs.specs.declared.log.Rest.{Rest}
 use Rattle.logs.specs.declared.log.Body.{Body}
 use Rattle.logs.specs.declared.log.Log.{Log}
 use Rattle.logs.specs.declared.call.Call.{Call}
-use Rattle.logs.specs.declared.call.Call.TheVariants.{Arrive, Withdraw, Call as Calls, Saw, Back, Find, List as Lists}
-use Rattle.log_yard.specs.declared.answer.Answer.{Answer}
-use Rattle.log_yard.specs.declared.answer.Answer.TheVariants.{Done, Found, Listed}
+use Rattle.logs.specs.declared.call.Call.TheVariants.{Arrive, Withdraw, Call as Calls, Saw, Back, Find}
+use Rattle.log_yard.specs.declared.answer.Answer.TheVariants.{Done, Found}
 use Rattle.log_yard.specs.declared.yard.Yard.{Yard}
-use Rattle.logs.specs.Orders.{tag_before, size_before, lex}
+use Rattle.logs.specs.Orders.{tag_before, size_before}
 use Rattle.log_yard.specs.Sizes.{size_of, stands}
 use Rattle.logs.specs.Limits.{TagOk, BodyOk, DiameterOk, LengthOk}
-use Rattle.logs.specs.Codes.{code}
 use Rattle.logs.specs.declared.species.Species.{Species}
 use Rattle.log_yard.specs.Law as law
 use Rattle.log_yard.specs.declared.refusal.Refusal.{Refusal}
@@ -33,11 +31,11 @@ use Rattle.log_yard.specs.declared.refusal.Refusal.TheVariants as refusal
 use Rattle.log_yard.specs.Refusals.{refusal_number}
 use Rattle.log_yard.specs.History.{Loaded, History, Event, log_at, present}
 use Rattle.log_yard.specs.Law.{Lawful}
-use Rattle.log_yard.specs.Tells.{at, bay_at, Agree, Sound, Tells, Sought, capacity}
+use Rattle.log_yard.specs.Tells.{at, bay_at, Agree, Tells, Sought, capacity}
 use Rattle.log_yard.specs.History.{event}
 use Rattle.log_yard.specs.Fitting.{LimitsOf, KeyFits, FirstFit}
 use Rattle.log_yard.proofs.Places.{logs_arrive, logs_withdraw, logs_saw, logs_back, logs_call}
-use Rattle.log_yard.proofs.Counts.{tag_order, same_tag, present_like}
+use Rattle.log_yard.proofs.Counts.{tag_order, present_like}
 use Rattle.log_yard.proofs.Rows.{size_order, at_inserted, at_removed, at_updated, bays_after, sizes_put, sizes_take}
 
 pub at_cases : (b : Bool) (new old : Option Rest) (r : Rest) → cond b new old ≡ Some r → ((b ≡ true) × (new ≡ Some r)) ⊎ (old ≡ Some r)

@@ -1,4 +1,5 @@
 // The log yard: two ordered indexes that agree, the calls on them, and their law over every list of calls.
+#![tactic(auto)]
 
 mod answer;
 mod calling;

@@ -1,4 +1,5 @@
 // What a log is, the two kinds of key that logs are found by, and what a yard is asked.
+#![tactic(auto)]
 
 mod call;
 mod keys;

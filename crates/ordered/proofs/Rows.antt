@@ -1,6 +1,6 @@
 -- Looking up, inserting and removing in a row of pairs.
-use Rattle.std.proofs.Common.{◌≡◌, ℕ, suc, Bool, true, false, cond, not, ◌&&◌, List, [], ◌∷◌, length, is_some, Some, None, Option, sym, refl, ap, ◌∙◌, subst, ⊎_elim}
-use Rattle.std.proofs.lemmas.Bool.{both_ways, and_parts, not-true, cases_Bool, cond-true, cond-false}
+use Rattle.std.proofs.Common.{◌≡◌, suc, Bool, true, false, cond, not, ◌&&◌, List, [], ◌∷◌, length, is_some, Some, None, Option, refl, ap, ◌∙◌, subst, ⊎_elim}
+use Rattle.std.proofs.lemmas.Bool.{both_ways, and_parts, not-true, cases_Bool, cond-false}
 use Rattle.ordered.specs.Meaning.{Order, After, Ascending, same, lookup, holds, first, inserted, removed, updated}
 
 -- the laws of a key kind, as one

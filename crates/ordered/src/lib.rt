@@ -1,4 +1,5 @@
 // The ordered index: keys, slots, faults and what every make of an index promises.
+#![tactic(auto)]
 
 mod fault;
 mod index;

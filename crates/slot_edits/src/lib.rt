@@ -1,4 +1,6 @@
 // A pair replaced in packed slots, or taken out of them, for every make of an index.
+#![tactic(auto)]
+
 ghost use Rattle.std.specs.Prelude.{◌≡◌, ◌<◌, length, IfOk};
 ghost use Rattle.ordered.specs.Changes.{absent_refusal};
 ghost use Rattle.ordered.specs.Meaning.{Ascending, updated, removed};

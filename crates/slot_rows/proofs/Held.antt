@@ -1,10 +1,10 @@
 -- Slots that hold a row: their parts, their ranks, and what the row says of a key.
-use Rattle.std.proofs.Common.{◌≡◌, ℕ, zero, suc, ◌+◌, ◌<◌, ◌≤◌, Bool, true, false, cond, not, ◌&&◌, List, [], ◌∷◌, ◌++◌, length, get_or, take, drop, is_some, Some, None, Ok, Err, Option, Result, sym, refl, ap, ◌∙◌, subst, ⊎_elim, arith}
+use Rattle.std.proofs.Common.{◌≡◌, ℕ, zero, suc, ◌<◌, ◌≤◌, Bool, true, false, cond, not, ◌&&◌, List, [], ◌∷◌, ◌++◌, length, get_or, take, drop, is_some, Some, None, Ok, Err, Option, sym, refl, ap, ◌∙◌, subst, ⊎_elim, arith}
 use Rattle.std.proofs.lemmas.Bool.{both_ways, cases_Bool, cond-true, cond-false}
 use Rattle.ordered.specs.declared.slot.Slot.{Slot}
-use Rattle.ordered.specs.Meaning.{Order, After, Ascending, same, lookup, holds, first, at_or_above, inserted, removed, updated}
-use Rattle.ordered.specs.Slots.{keep, pairs, Blank, Shows, Holds}
-use Rattle.ordered.proofs.Rows.{same_is, lookup_after, after_further, removed_absent, updated_absent}
+use Rattle.ordered.specs.Meaning.{Order, After, Ascending, same, lookup, holds, first, inserted, removed, updated}
+use Rattle.ordered.specs.Slots.{keep, pairs, Blank, Holds}
+use Rattle.ordered.proofs.Rows.{lookup_after, after_further, removed_absent, updated_absent}
 use Rattle.slot_rows.specs.declared.halving.Bound.{Bound}
 use Rattle.slot_rows.specs.declared.halving.Bound.TheVariants.{Lower, Upper}
 use Rattle.slot_rows.specs.Ranks.{key_below, below, lead, Fails, Falling, there, located}

@@ -1,10 +1,10 @@
 -- What the slots of a straight row hold once a pair is put in, replaced or taken out.
-use Rattle.std.proofs.Common.{◌≡◌, ℕ, zero, suc, ◌+◌, ◌-◌, ◌<◌, ◌≤◌, min, Bool, true, false, cond, not, List, [], ◌∷◌, ◌++◌, length, get_or, take, drop, sym, refl, ap, ◌∙◌, subst, arith}
-use Rattle.std.proofs.lemmas.List.{length-take-le, length-take, length-drop, take-take, take_all, drop_all, drop-drop, append-nil, append_assoc}
+use Rattle.std.proofs.Common.{◌≡◌, ℕ, suc, ◌+◌, ◌<◌, ◌≤◌, false, List, [], ◌∷◌, ◌++◌, length, take, drop, sym, refl, ◌∙◌, subst, arith}
+use Rattle.std.proofs.lemmas.List.{length-take-le, length-drop, take_all, drop_all, drop-drop, append-nil, append_assoc}
 use Rattle.ordered.specs.declared.slot.Slot.{Slot}
-use Rattle.ordered.specs.Slots.{countable, pairs, Blank, Shows, Holds}
-use Rattle.slot_rows.proofs.Held.{pairs_held, length_held, blank_drop, held_take, held_drop, held_append}
-use Rattle.slot_rows.proofs.Splices.{spliced, pushed_up, pushed_down}
+use Rattle.ordered.specs.Slots.{Blank, Shows, Holds}
+use Rattle.slot_rows.proofs.Held.{length_held, blank_drop, held_take, held_drop, held_append}
+use Rattle.slot_rows.proofs.Splices.{spliced}
 
 module _ {K R : Type 0} (row : List (K × R)) (xs : List (Slot K R)) (h : Holds row xs) (a : ℕ) where
   within : length row ≤ length xs

@@ -1,5 +1,5 @@
 -- How many slots of a row are below a key, and where a key stands.
-use Rattle.std.specs.Prelude.{◌≡◌, ℕ, suc, Bool, true, false, cond, not, ◌&&◌, List, [], ◌∷◌, Ok, Err, Result}
+use Rattle.std.specs.Prelude.{◌≡◌, ℕ, suc, Bool, false, cond, not, ◌&&◌, List, [], ◌∷◌, Ok, Err, Result}
 use Rattle.ordered.specs.declared.slot.Slot.{Slot}
 use Rattle.slot_rows.specs.declared.halving.Bound.{Bound}
 use Rattle.slot_rows.specs.declared.halving.Bound.TheVariants.{Lower, Upper}

@@ -1,4 +1,5 @@
 // Search and shift in a lent row of slots, for every make of an index.
+#![tactic(auto)]
 
 mod halving;
 mod shift;

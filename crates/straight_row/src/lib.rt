@@ -1,4 +1,5 @@
 // The straight row: an ordered index that keeps its pairs in the first slots of a lent row, in key order.
+#![tactic(auto)]
 
 mod edit;
 mod row;

@@ -1,4 +1,5 @@
 // Where an array tree stands in a row of slots.
+#![tactic(auto)]
 
 mod laws;
 mod layout;

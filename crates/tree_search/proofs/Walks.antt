@@ -8,7 +8,7 @@ use Rattle.ordered.specs.Meaning.{After, Ascending}
 use Rattle.ordered.specs.Slots.{keep, pairs}
 use Rattle.slot_rows.specs.declared.halving.Bound.TheVariants.{Upper}
 use Rattle.slot_rows.specs.Ranks.{below, lead, Fails, Falling}
-use Rattle.tree_layout.specs.Levels.{starts, leaves, tree_slots, area}
+use Rattle.tree_layout.specs.Levels.{starts, tree_slots, area}
 use Rattle.tree_layout.proofs.Levels.{starts_pow, starts_up}
 use Rattle.tree_index.specs.Index.{first_key, index_key, place, Names}
 use Rattle.tree_index.specs.Standing.{Stands, not_after, Target}

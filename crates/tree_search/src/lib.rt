@@ -1,4 +1,5 @@
 // Search in the slots of a standing array tree, one node of each level at a time.
+#![tactic(auto)]
 
 mod descent;
 mod laws;

@@ -1,4 +1,5 @@
 // The program `yard`: reads lines from standard input, and answers each at once on standard output.
+#![tactic(auto)]
 
 use line_input::LineBuffer;
 use line_writer::ROW;

@@ -1,5 +1,5 @@
 -- The line that is written is the one that the verdict asks for.
-use Rattle.std.proofs.Common.{◌≡◌, ℕ, ◌<◌, ◌≤◌, List, length, IfOk, Ok, Err, Result, sym, ap, ◌∙◌, subst, arith}
+use Rattle.std.proofs.Common.{◌≡◌, ℕ, ◌≤◌, List, length, IfOk, Ok, Err, Result, ap, ◌∙◌, subst, arith}
 use Rattle.line_reader.specs.Reads.{reads}
 use Rattle.line_writer.specs.declared.answers.ShortRow.{ShortRow}
 use Rattle.line_writer.specs.Shows.{Written, Answered, ok_line, no_line}

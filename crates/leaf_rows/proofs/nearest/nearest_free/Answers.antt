@@ -1,6 +1,6 @@
-use Rattle.std.proofs.Common.{◌≡◌, ℕ, ◌+◌, ◌-◌, ◌*◌, ◌<◌, ◌≤◌, sym, refl, ap, ◌∙◌, subst, mul-le-mul_right, arith}
+use Rattle.std.proofs.Common.{◌+◌, ◌-◌, ◌<◌, ◌≤◌, sym, ◌∙◌, mul-le-mul_right, arith}
 use Rattle.std.proofs.lemmas.Bool.{ltb-true, ltb-false}
-use Rattle.leaf_rows.specs.Leaves.{leaf_at, Packed, count_at, distance}
+use Rattle.leaf_rows.specs.Leaves.{count_at}
 use Rattle.leaf_rows.proofs.Near.{near_by, tie_low, wider}
 use Rattle.leaf_rows.proofs.nearest.nearest_free.Goals.{else-far-leaves-via-then-far-leaves+else-is_free, else-far-leaves-via-else-far-leaves, else-far-t-via-then-far-t+else-is_free-2, else-far-t-via-else-far-t}
 use Rattle.leaf_rows.proofs.nearest.nearest_free.Goals as goal

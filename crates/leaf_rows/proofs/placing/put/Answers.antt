@@ -1,4 +1,4 @@
-use Rattle.std.proofs.Common.{◌≡◌, ℕ, ◌+◌, ◌*◌, ◌/◌, ◌<◌, ◌≤◌, length, Ok, Err, sym, refl, ap, ◌∙◌, subst, mul-le-mul_right, arith}
+use Rattle.std.proofs.Common.{◌+◌, ◌*◌, ◌<◌, ◌≤◌, length, Ok, Err, sym, refl, subst, mul-le-mul_right, arith}
 use Rattle.ordered.specs.declared.fault.Fault.TheVariants.{Present, Full}
 use Rattle.ordered.proofs.Rows.{order}
 use Rattle.leaf_rows.specs.Leaves.{Leafed, Belongs, Nearest}

@@ -1,4 +1,4 @@
-use Rattle.std.proofs.Common.{◌≡◌, ◌+◌, ◌≤◌, length, drop}
+use Rattle.std.proofs.Common.{◌≡◌, ◌+◌, length, drop}
 use Rattle.line_input.specs.Lines.{up_to_end}
 use Rattle.line_input.proofs.line.count_to_end.Given as goal
 

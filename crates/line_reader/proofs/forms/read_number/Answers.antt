@@ -1,4 +1,4 @@
-use Rattle.std.proofs.Common.{◌≡◌, ℕ, ◌+◌, ◌-◌, ◌≤◌, true, false, get_or, sym, ap, ◌∙◌, arith}
+use Rattle.std.proofs.Common.{◌≡◌, ◌-◌, true, get_or, sym, ◌∙◌, arith}
 use Rattle.line_reader.specs.Fields.{digit}
 use Rattle.line_reader.proofs.Figures.{digit_more, refused, fits, too_large, digit_low, power_more}
 use Rattle.line_reader.proofs.forms.read_number.Goals as goal

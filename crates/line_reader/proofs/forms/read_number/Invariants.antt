@@ -1,4 +1,4 @@
-use Rattle.std.proofs.Common.{◌≡◌, ◌^◌, ◌<◌, length, drop}
+use Rattle.std.proofs.Common.{◌≡◌, ◌^◌, ◌<◌, drop}
 use Rattle.line_reader.specs.Fields.{read_on}
 use Rattle.line_reader.proofs.forms.read_number.Given as goal
 

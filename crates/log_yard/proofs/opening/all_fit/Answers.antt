@@ -1,4 +1,4 @@
-use Rattle.std.proofs.Common.{◌≡◌, ◌≤◌, [], length, sym, refl, ap, ◌∙◌, subst, arith}
+use Rattle.std.proofs.Common.{◌≤◌, [], length, refl, subst, arith}
 use Rattle.logs.specs.Limits.{TagOk, BodyOk}
 use Rattle.log_yard.specs.Opens.{AllFit}
 use Rattle.std.proofs.lemmas.Bool.{false≢true}

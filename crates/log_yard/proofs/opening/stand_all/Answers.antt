@@ -1,5 +1,5 @@
-use Rattle.std.proofs.Common.{◌≡◌, ◌≤◌, [], ◌∷◌, ◌++◌, length, sym, refl, ap, ◌∙◌, subst, arith}
-use Rattle.log_yard.specs.Opens.{AllFit, Fills}
+use Rattle.std.proofs.Common.{◌≤◌, [], ◌∷◌, ◌++◌, length, sym, refl, subst, arith}
+use Rattle.log_yard.specs.Opens.{Fills}
 use Rattle.log_yard.proofs.Opened as walk
 use Rattle.log_yard.proofs.opening.stand_all.Goals as goal
 use Rattle.log_yard.proofs.opening.stand_all.Goals.{in-Standing, in_default-place}

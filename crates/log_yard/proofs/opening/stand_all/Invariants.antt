@@ -1,4 +1,4 @@
-use Rattle.std.proofs.Common.{◌≡◌, ℕ, ◌+◌, ◌≤◌, List, [], ◌++◌, length}
+use Rattle.std.proofs.Common.{◌≡◌, ◌≤◌, List, [], ◌++◌, length}
 use Rattle.ordered.proofs.Walks.{head_of}
 use Rattle.logs.specs.declared.keys.Tag.{Tag}
 use Rattle.logs.specs.declared.log.Rest.{Rest}

@@ -1,4 +1,4 @@
-use Rattle.std.proofs.Common.{◌≡◌, ◌+◌, length, sym, refl, arith}
+use Rattle.std.proofs.Common.{arith}
 use Rattle.slot_rows.proofs.Shifts.{lowered_more, lowered_all, lowered_empty}
 use Rattle.slot_rows.proofs.shift.push_down.Goals as goal
 

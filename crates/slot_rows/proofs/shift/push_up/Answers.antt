@@ -1,4 +1,3 @@
-use Rattle.std.proofs.Common.{◌≡◌, ◌+◌, length, sym, refl, arith}
 use Rattle.slot_rows.proofs.Shifts.{raised_more, raised_all, raised_empty}
 use Rattle.slot_rows.proofs.shift.push_up.Goals as goal
 

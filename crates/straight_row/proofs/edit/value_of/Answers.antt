@@ -1,4 +1,4 @@
-use Rattle.std.proofs.Common.{◌≡◌, Some, sym, ap, ◌∙◌}
+use Rattle.std.proofs.Common.{Some, sym, ap, ◌∙◌}
 use Rattle.ordered.proofs.Rows.{order}
 use Rattle.straight_row.proofs.Moves.{value_found, value_missing}
 use Rattle.straight_row.proofs.edit.value_of.Goals as goal

@@ -1,4 +1,3 @@
-use Rattle.std.proofs.Common.{refl}
 use Rattle.std.proofs.lemmas.Result.{err_from_is_err_and}
 use Rattle.array_tree.proofs.Wholes.{put_ok, put_err}
 use Rattle.array_tree.proofs.standing_tree.ArrayTree.put.Goals as goal

@@ -1,5 +1,4 @@
-use Rattle.std.proofs.Common.{◌≡◌, ℕ, ◌+◌, ◌-◌, ◌<◌, ◌≤◌, min, length, Some, sym, ap, ◌∙◌, arith, rules}
-use Rattle.line_input.specs.Lines.{up_to_end}
+use Rattle.std.proofs.Common.{◌+◌, ◌-◌, min, Some, ap, ◌∙◌, arith, rules}
 use Rattle.line_input.proofs.Ends.{ends_at, goes_on, pushed}
 use Rattle.line_input.proofs.line.LineBuffer.push.Goals as goal
 

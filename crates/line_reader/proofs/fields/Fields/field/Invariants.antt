@@ -1,4 +1,4 @@
-use Rattle.std.proofs.Common.{◌≡◌, ◌+◌, ◌-◌, ◌≤◌, [], ◌++◌, length, get_or, take, drop}
+use Rattle.std.proofs.Common.{◌≡◌, ◌-◌, ◌≤◌, [], ◌++◌, length, get_or, take, drop}
 use Rattle.line_reader.specs.Fields.{fields}
 use Rattle.line_reader.proofs.fields.Fields.field.Given as goal
 

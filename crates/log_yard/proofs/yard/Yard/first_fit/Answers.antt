@@ -1,4 +1,4 @@
-use Rattle.std.proofs.Common.{◌≡◌, sym, refl, ap, ◌∙◌, arith, rules}
+use Rattle.std.proofs.Common.{sym, ◌∙◌, arith}
 use Rattle.log_yard.proofs.Fits as fits
 use Rattle.log_yard.proofs.yard.Yard.first_fit.Goals as goal
 

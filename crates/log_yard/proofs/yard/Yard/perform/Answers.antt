@@ -1,4 +1,4 @@
-use Rattle.std.proofs.Common.{◌≡◌, sym, refl, ap, ◌∙◌, subst, rules}
+use Rattle.std.proofs.Common.{sym, subst}
 use Rattle.logs.specs.declared.call.Call.{Call}
 use Rattle.log_yard.specs.Tells.{Obeys}
 use Rattle.log_yard.proofs.Runs.{stays_same}

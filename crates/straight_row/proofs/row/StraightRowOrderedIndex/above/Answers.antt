@@ -1,4 +1,4 @@
-use Rattle.std.proofs.Common.{sym, ◌∙◌}
+use Rattle.std.proofs.Common.{◌∙◌}
 use Rattle.ordered.proofs.Rows.{first_same}
 use Rattle.straight_row.proofs.Moves.{orderly, not_twice}
 use Rattle.straight_row.proofs.row.StraightRowOrderedIndex.above.Goals as goal

@@ -1,4 +1,4 @@
-use Rattle.std.proofs.Common.{sym, ◌∙◌}
+use Rattle.std.proofs.Common.{sym}
 use Rattle.straight_row.proofs.Moves.{orderly}
 use Rattle.straight_row.proofs.row.StraightRowOrderedIndex.count.Goals as goal
 

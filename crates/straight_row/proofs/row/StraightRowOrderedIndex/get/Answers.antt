@@ -1,4 +1,3 @@
-use Rattle.std.proofs.Common.{sym, ◌∙◌}
 use Rattle.straight_row.proofs.Moves.{orderly}
 use Rattle.straight_row.proofs.row.StraightRowOrderedIndex.get.Goals as goal
 

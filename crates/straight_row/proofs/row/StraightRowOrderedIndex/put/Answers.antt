@@ -1,4 +1,4 @@
-use Rattle.std.proofs.Common.{◌+◌, ◌-◌, Ok, Err, refl}
+use Rattle.std.proofs.Common.{◌+◌, Ok, Err, refl}
 use Rattle.std.proofs.lemmas.Result.{err_from_is_err_and}
 use Rattle.straight_row.proofs.Moves.{whole, unmoved_slots}
 use Rattle.straight_row.proofs.row.StraightRowOrderedIndex.put.Goals as goal
