@@ -12,7 +12,7 @@ use Rattle.array_tree.specs.declared.standing_tree.ArrayTree.{ArrayTree}
 use Rattle.array_tree.specs.Filling.{capacity_of, leaf_area}
 use Rattle.array_tree.specs.Standing.{Standing, Keeps, row_in, room_in}
 
-pairs_few : {K R : Type 0} (ss : List (Slot K R)) → length (pairs ss) ≤ length ss
+pub pairs_few : {K R : Type 0} (ss : List (Slot K R)) → length (pairs ss) ≤ length ss
 pairs_few [] = omega arith
 pairs_few (s ∷ ss) = elim s.filled as (λ t. length (keep t (s.key, s.value) (pairs ss)) ≤ suc (length ss)) [ true ↦ omega (arith, pairs_few ss) | false ↦ omega (arith, pairs_few ss) ]
 

@@ -1,7 +1,11 @@
 pub mod Answered
 pub mod Blanks
-pub mod Packed
-pub mod Nexts
 pub mod Closes
+pub mod Edited
+pub mod Heights
+pub mod Indexed
 pub mod Lands
+pub mod Nexts
+pub mod Orders
+pub mod Packed
 pub mod Wholes

@@ -1,4 +1,5 @@
 pub mod Filling
+pub mod Ordered
 pub mod Placing
 pub mod Standing
 pub mod Trees

@@ -12,7 +12,7 @@ use tree_layout::Layout;
 use tree_search::target_leaf;
 
 // Puts a pair into the leaves, and renews the index slots of the leaves that may begin with another key.
-fn put_pair<K: Key, R: Copy>(
+pub(crate) fn put_pair<K: Key, R: Copy>(
     slots: &mut [Slot<K, R>],
     layout: Layout,
     key: K,

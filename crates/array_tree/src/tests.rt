@@ -3,7 +3,7 @@ ghost use Rattle.std.specs.Prelude.{nat_lt};
 ghost use Rattle.std.proofs.Common.{rules};
 
 use crate::FillingTree;
-use ordered::{Fault, Key, Slot};
+use ordered::{Fault, Key, OrderedIndex, Slot};
 
 #[derive(Clone, Copy)]
 struct Mark(u8);
@@ -103,4 +103,27 @@ fn a_closed_tree_is_searched(rt: HostRuntime) {
     assert_eq!(rt; key_of(tree.at_or_above(Mark(41))), 50);
     assert_eq!(rt; key_of(tree.above(Mark(40))), 50);
     assert_eq!(rt; key_of(tree.above(Mark(90))), 0);
+}
+
+// [10] [20 30] [40]: the pair put in for the full leaf moves its last pair on.
+#[test]
+fn pairs_are_put_and_taken(rt: HostRuntime) {
+    let mut slots = [STALE; 8];
+    let mut filling = FillingTree::over(&mut slots);
+    for k in 1..5 {
+        assert_eq!(rt; number(filling.feed(Mark(10 * k), k)), 0);
+    }
+    let mut tree = filling.close().into_ordered();
+    assert_eq!(rt; number(tree.take(Mark(20))), 0);
+    assert_eq!(rt; number(tree.take(Mark(20))), 34);
+    assert_eq!(rt; number(tree.put(Mark(25), 5)), 0);
+    assert_eq!(rt; number(tree.put(Mark(25), 6)), 33);
+    assert_eq!(rt; number(tree.set(Mark(25), 7)), 0);
+    assert_eq!(rt; number(tree.set(Mark(26), 7)), 34);
+    assert_eq!(rt; tree.get(Mark(25)), Some(7));
+    assert_eq!(rt; number(tree.put(Mark(45), 8)), 0);
+    assert_eq!(rt; number(tree.put(Mark(5), 9)), 0);
+    assert_eq!(rt; number(tree.put(Mark(6), 9)), 32);
+    assert_eq!(rt; number(tree.put(Mark(5), 9)), 33);
+    assert_eq!(rt; tree.count(), 6);
 }

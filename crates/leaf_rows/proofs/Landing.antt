@@ -19,7 +19,7 @@ stretches m lo j ys =
     ∙ ap (λ zs. take (lo * m) ys ++ zs) (sym (take-append-drop (suc j * m) (drop (lo * m) ys)) ∙ ap (λ zs. take (suc j * m) (drop (lo * m) ys) ++ zs) (drop-drop (suc j * m) (lo * m) ys ∙ ap (λ k. drop k ys) q))
 
 module _ {K R : Type 0} where
-  head_behind : (us vs ws : List (K × R)) → key_of (head_of vs) ≡ key_of (head_of ws) → key_of (head_of (us ++ vs)) ≡ key_of (head_of (us ++ ws))
+  pub head_behind : (us vs ws : List (K × R)) → key_of (head_of vs) ≡ key_of (head_of ws) → key_of (head_of (us ++ vs)) ≡ key_of (head_of (us ++ ws))
   head_behind [] vs ws e = e
   head_behind (u ∷ us) vs ws e = refl
 
@@ -43,7 +43,7 @@ module _ {K R : Type 0} {b : K → K → Bool} (o : Order b) (m n : ℕ) (ys : L
   holds_at = ap is_some (ap (λ ps. lookup b ps k) rows_at ∙ lookup_between o k (pairs (take (t * m) ys)) (pairs (leaf_at m ys t)) (pairs (drop (suc t * m) ys)) bl.earlier bl.later)
 
 -- a leaf is before the block, in it or after it
-pick : (F : ℕ → Type 0) (lo j n p : ℕ) → p < n → ((q : ℕ) → q < lo → q < n → F q) → ((i : ℕ) → i ≤ j → F (lo + i)) → ((q : ℕ) → lo + j < q → q < n → F q) → F p
+pub pick : (F : ℕ → Type 0) (lo j n p : ℕ) → p < n → ((q : ℕ) → q < lo → q < n → F q) → ((i : ℕ) → i ≤ j → F (lo + i)) → ((q : ℕ) → lo + j < q → q < n → F q) → F p
 pick F lo j n p l before inside after = ⊎_elim
     (λ a. before p a l)
     (λ a. ⊎_elim (λ c. after p c l) (λ c. let e : lo + (p - lo) ≡ p = omega (arith, a) in subst F e (inside (p - lo) (omega (arith, a, c)))) (cases_lt (lo + j) p))

@@ -1,0 +1,15 @@
+use Rattle.std.proofs.Common.{ℕ}
+use Rattle.ordered.specs.Changes.{absent_refusal}
+use Rattle.ordered.specs.Meaning.{updated}
+use Rattle.ordered.proofs.Rows.{length_updated}
+use Rattle.tree_changes.specs.Changed.{Replaced}
+use Rattle.array_tree.proofs.Edited.{whole_same}
+use Rattle.array_tree.proofs.index.OrderedTreeOrderedIndex.set.Goals as goal
+
+pub returns-in-Some : goal.returns-in-Some
+returns-in-Some g c =
+    let b = g.K.Key.before in
+    let w = whole_same b g.K.Key.width c.args.self.now c.in-Some.layout c.in-Some.ensures c.set_pair.new.slots c.set_pair.auto.slots
+    (λ room row. absent_refusal b row c.args.key) (λ row. updated b row c.args.key c.args.value) (λ (w h : ℕ) ys. Replaced b w h c.args.self.now.slots.now c.args.key c.args.value ys)
+    c.set_pair.result c.set_pair.ensures (λ d. d.tree) (length_updated b _ c.args.key c.args.value) in
+    record { meaning = w.0; slots = w.1 }

@@ -1,0 +1,5 @@
+pub mod Betweens
+pub mod Edits
+pub mod Heads
+pub mod Lands
+pub mod Relaying
