@@ -1,0 +1,4 @@
+pub mod Limits
+pub mod Loads
+pub mod Opens
+pub mod Serves

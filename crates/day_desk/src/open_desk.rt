@@ -1,0 +1,93 @@
+ghost use Rattle.std.specs.Prelude.{◌≡◌, ◌≤◌, length, replicate, IfOk};
+ghost use Rattle.day_desk.specs.Open.{tag_of, reply_to, Serves, Answers, no_log};
+
+use crate::reply::write_reply;
+use crate::{Refusal, Reply};
+use line_reader::{Request, read_request};
+use line_writer::{ROW, ShortRow};
+use log_yard::{Answer, Yard};
+use logs::{Body, Call, Log, Place, Rest, Size, Species, Tag};
+use ordered::OrderedIndex;
+
+// The page of a LIST line.
+const PAGE: usize = 100;
+
+// What stands in the page before the first LIST.
+const NO_LOG: Log = Log {
+    tag: 0,
+    rest: Rest {
+        body: Body {
+            species: Species::Spruce,
+            diameter: 0,
+            length: 0,
+            bay: 0,
+        },
+        place: Place::Standing,
+    },
+};
+
+// An open yard, and the page that a LIST writes into.
+#[derive(Drop)]
+pub struct OpenDesk<T: OrderedIndex<Tag, Rest>, S: OrderedIndex<Size, u8>> {
+    yard: Yard<T, S>,
+    page: [Log; PAGE],
+}
+
+// The tag that the call names; CALL and LIST name none, and answer with logs.
+fn tag_of(call: Call) -> u32
+    ensures { result ≡ tag_of call }
+{
+    match call {
+        Call::Arrive(tag, _) => tag,
+        Call::Withdraw(tag) | Call::Saw(tag) | Call::Back(tag) | Call::Find(tag) => tag,
+        Call::Call(_, _, _) | Call::List(_, _, _) => 0,
+    }
+}
+
+fn reply_to(call: Call, answer: Answer) -> Reply
+    ensures { result ≡ reply_to call answer }
+{
+    match answer {
+        Answer::Done => Reply::Done(tag_of(call)),
+        Answer::Found(log) => Reply::Found(log),
+        Answer::Listed(count, more) => Reply::Listed(count, more),
+    }
+}
+
+impl<T: OrderedIndex<Tag, Rest>, S: OrderedIndex<Size, u8>> OpenDesk<T, S> {
+    pub fn over(yard: Yard<T, S>) -> OpenDesk<T, S>
+        ensures yard { result.yard ≡ yard }
+        ensures page { result.page ≡ replicate 100 no_log }
+    {
+        OpenDesk {
+            yard,
+            page: [NO_LOG; PAGE],
+        }
+    }
+
+    // Does what the line asks for.
+    fn serve(&mut self, line: &[u8]) -> Result<Reply, Refusal>
+        ensures { Serves T.OrderedIndex S.OrderedIndex self.old line.now result self.new }
+    {
+        match read_request(line)? {
+            Request::Log(_) => Err(Refusal::AlreadyOpen),
+            Request::Open => Err(Refusal::AlreadyOpen),
+            Request::Call(call) => {
+                let answer = self.yard.perform(&call, &mut self.page)?;
+                Ok(reply_to(call, answer))
+            }
+        }
+    }
+
+    // Answers the line at the start of the row, and gives the length of the answer.
+    pub fn answer(&mut self, line: &[u8], out: &mut [u8]) -> Result<usize, ShortRow>
+        ensures says { Answers T.OrderedIndex S.OrderedIndex self.old line.now out.old result out.new self.new }
+        ensures within { IfOk result (λ n. n ≤ length out.old) }
+    {
+        if out.len() < ROW {
+            return Err(ShortRow {});
+        }
+        let reply = self.serve(line);
+        write_reply(out, reply, &self.page)
+    }
+}
