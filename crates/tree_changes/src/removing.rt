@@ -1,4 +1,5 @@
-ghost use Rattle.std.specs.Prelude.{◌≡◌, ℕ, ◌+◌, ◌*◌, ◌<◌, ◌≤◌, true, false, length, slice_index_or};
+ghost use Rattle.std.specs.Prelude.{◌≡◌, ℕ, ◌+◌, ◌*◌, ◌<◌, ◌≤◌, true, false, length, slice_index_or, Err};
+ghost use Rattle.ordered.specs.declared.fault.Fault.TheVariants.{Absent};
 ghost use Rattle.ordered.specs.declared.slot.Slot.{Slot as Place};
 ghost use Rattle.ordered.specs.Changes.{absent_refusal};
 ghost use Rattle.tree_layout.specs.Levels.{tree_slots};
@@ -37,7 +38,8 @@ pub fn take_pair<K: Key, R: Copy>(
     layout: Layout,
     key: K,
 ) -> Result<(), Fault>
-    ensures { Stands K.Key.before layout.width layout.height slots.old → Changed (absent_refusal K.Key.before (tree_row layout.width layout.height slots.old) key) (Removed K.Key.before layout.width layout.height slots.old key) slots.old result slots.new }
+    ensures changes { Stands K.Key.before layout.width layout.height slots.old → Changed (absent_refusal K.Key.before (tree_row layout.width layout.height slots.old) key) (Removed K.Key.before layout.width layout.height slots.old key) slots.old result slots.new }
+    ensures short { length slots.old < tree_slots layout.width layout.height → (result ≡ Err Absent) × (slots.new ≡ slots.old) }
 {
     // A tree in these slots passes this; no access after it is out of bounds.
     if slots.len() < layout.slots() {

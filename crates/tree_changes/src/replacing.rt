@@ -1,4 +1,7 @@
+ghost use Rattle.std.specs.Prelude.{◌≡◌, ◌<◌, length, Err};
+ghost use Rattle.ordered.specs.declared.fault.Fault.TheVariants.{Absent};
 ghost use Rattle.ordered.specs.Changes.{absent_refusal};
+ghost use Rattle.tree_layout.specs.Levels.{tree_slots};
 ghost use Rattle.tree_index.specs.Standing.{tree_row, Stands};
 ghost use Rattle.tree_changes.specs.Changed.{Changed, Replaced};
 
@@ -14,7 +17,8 @@ pub fn set_pair<K: Key, R: Copy>(
     key: K,
     value: R,
 ) -> Result<(), Fault>
-    ensures { Stands K.Key.before layout.width layout.height slots.old → Changed (absent_refusal K.Key.before (tree_row layout.width layout.height slots.old) key) (Replaced K.Key.before layout.width layout.height slots.old key value) slots.old result slots.new }
+    ensures changes { Stands K.Key.before layout.width layout.height slots.old → Changed (absent_refusal K.Key.before (tree_row layout.width layout.height slots.old) key) (Replaced K.Key.before layout.width layout.height slots.old key value) slots.old result slots.new }
+    ensures short { length slots.old < tree_slots layout.width layout.height → (result ≡ Err Absent) × (slots.new ≡ slots.old) }
 {
     // A tree in these slots passes this; no access after it is out of bounds.
     if slots.len() < layout.slots() {

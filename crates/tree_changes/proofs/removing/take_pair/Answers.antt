@@ -22,8 +22,8 @@ offset_bounds-slots-from g c =
 pub slice_bounds-remove-end : goal.slice_bounds-remove-end
 slice_bounds-remove-end g c = omega (arith, leaf_within c.args.layout c.target_leaf-target.result c.target_leaf-target.ensures.within, c.if-slots.false, c.slots.ensures)
 
-pub returns-in_err-at : goal.returns-in_err-at
-returns-in_err-at g c = λ st.
+pub returns-in_err-at-clause-changes : goal.returns-in_err-at-clause-changes
+returns-in_err-at-clause-changes g c = λ st.
     let o = order g.met.K.Key.irreflexive g.met.K.Key.transitive g.met.K.Key.total in
     let y = c.args.layout in
     let xs = c.args.slots.now in
@@ -33,8 +33,8 @@ returns-in_err-at g c = λ st.
     let q = err_from_is_err_and c.from_residual.result c.from_residual.ensures.1 in
     rw (q.1, q.2) (leaf_refused o y xs st c.args.key t target T _ _ _ (c.in_err-at.ensures.edits (leaf_packed o y xs st c.args.key t target T) (leaf_ascends o y xs st c.args.key t target T)))
 
-pub returns-then-at-gt0 : goal.returns-then-at-gt0
-returns-then-at-gt0 g c = λ st.
+pub returns-then-at-gt0-clause-changes : goal.returns-then-at-gt0-clause-changes
+returns-then-at-gt0-clause-changes g c = λ st.
     let o = order g.met.K.Key.irreflexive g.met.K.Key.transitive g.met.K.Key.total in
     let y = c.args.layout in
     let xs = c.args.slots.now in
@@ -45,8 +45,8 @@ returns-then-at-gt0 g c = λ st.
     let ascends = leaf_ascends o y xs st c.args.key t target T in
     taken_inside o y xs st c.args.key t target T c.remove.auto.part c.in_ok-at.at (c.in_ok-at.ensures.edits packed ascends) (c.in_ok-at.ensures.place packed ascends) c.if-at-gt0.true
 
-pub returns : goal.returns
-returns g c = λ st.
+pub returns-clause-changes : goal.returns-clause-changes
+returns-clause-changes g c = λ st.
     let o = order g.met.K.Key.irreflexive g.met.K.Key.transitive g.met.K.Key.total in
     let y = c.args.layout in
     let xs = c.args.slots.now in

@@ -21,8 +21,8 @@ offset_bounds-slots-from g c =
 pub slice_bounds-replace-end : goal.slice_bounds-replace-end
 slice_bounds-replace-end g c = omega (arith, leaf_within c.args.layout c.target_leaf-target.result c.target_leaf-target.ensures.within, c.if-slots.false, c.slots.ensures)
 
-pub returns : goal.returns
-returns g c = λ st.
+pub returns-clause-changes : goal.returns-clause-changes
+returns-clause-changes g c = λ st.
     let o = order g.met.K.Key.irreflexive g.met.K.Key.transitive g.met.K.Key.total in
     let y = c.args.layout in
     let xs = c.args.slots.now in

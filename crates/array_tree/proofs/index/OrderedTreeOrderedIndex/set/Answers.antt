@@ -11,5 +11,5 @@ returns-in-Some g c =
     let b = g.K.Key.before in
     let w = whole_same b g.K.Key.width c.args.self.now c.in-Some.layout c.in-Some.ensures c.set_pair.new.slots c.set_pair.auto.slots
     (λ room row. absent_refusal b row c.args.key) (λ row. updated b row c.args.key c.args.value) (λ (w h : ℕ) ys. Replaced b w h c.args.self.now.slots.now c.args.key c.args.value ys)
-    c.set_pair.result c.set_pair.ensures (λ d. d.tree) (length_updated b _ c.args.key c.args.value) in
+    c.set_pair.result c.set_pair.ensures.changes (λ d. d.tree) (length_updated b _ c.args.key c.args.value) in
     record { meaning = w.0; slots = w.1 }

@@ -13,7 +13,7 @@ returns-in_err-take_pair g c =
     let q = err_from_is_err_and c.from_residual.result c.from_residual.ensures.1 in
     let w = whole_err b g.K.Key.width c.args.self.now c.in-Some.layout c.in-Some.ensures c.take_pair.new.slots c.take_pair.auto.slots
     (λ room row. absent_refusal b row c.args.key) (λ row. removed b row c.args.key) (λ (w h : ℕ) ys. Removed b w h c.args.self.now.slots.now c.args.key ys)
-    c.in_err-take_pair.field-0.0 c.in_err-take_pair.ensures in
+    c.in_err-take_pair.field-0.0 c.in_err-take_pair.ensures.changes in
     rw (q.1, q.2) (record { meaning = w.0; slots = w.1 })
 
 pub returns : goal.returns
@@ -22,5 +22,5 @@ returns g c =
     let o = order g.met.K.Key.irreflexive g.met.K.Key.transitive g.met.K.Key.total in
     let w = whole_ok b g.K.Key.width c.args.self.now c.in-Some.layout c.in-Some.ensures c.take_pair.new.slots c.take_pair.auto.slots
     (λ room row. absent_refusal b row c.args.key) (λ row. removed b row c.args.key) (λ (w h : ℕ) ys. Removed b w h c.args.self.now.slots.now c.args.key ys)
-    c.saturating_sub-self.result c.in_ok-take_pair.ensures (λ d. d.tree) (λ s d. one_less o g.K.Key.width c.in-Some.layout.height c.args.self.now.slots.now c.args.self.now.count s c.args.key c.saturating_sub-self.result c.saturating_sub-self.ensures d) in
+    c.saturating_sub-self.result c.in_ok-take_pair.ensures.changes (λ d. d.tree) (λ s d. one_less o g.K.Key.width c.in-Some.layout.height c.args.self.now.slots.now c.args.self.now.count s c.args.key c.saturating_sub-self.result c.saturating_sub-self.ensures d) in
     record { meaning = w.0; slots = w.1 }
