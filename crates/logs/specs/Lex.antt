@@ -6,7 +6,8 @@ use Rattle.logs.specs.declared.species.Species.{Species}
 use Rattle.logs.specs.declared.species.Species.TheVariants.{Spruce, Pine, Larch, Douglas}
 use Rattle.logs.specs.declared.keys.Size.{Size}
 use Rattle.logs.specs.Codes.{code}
-use Rattle.logs.specs.Orders.{lex, size_before}
+use Rattle.logs.specs.Orders.{lex, tag_before, size_before}
+use Rattle.ordered.specs.Meaning.{Order}
 
 lex_transitive : (x y z : ℕ) (s t u : Bool) → (s ≡ true → t ≡ true → u ≡ true) → lex x y s ≡ true → lex y z t ≡ true → lex x z u ≡ true
 lex_transitive x y z s t u h p q = grind (arith, nat_tests)
@@ -49,3 +50,20 @@ size_total a b p q =
     let l = w.0 in
     let t = ltb_total a.tag b.tag w.1 w.2 in
     λ i. record { species = s i; diameter = d i; length = l i; tag = t i }
+
+pub tag_order : Order tag_before
+tag_order = record {
+  irreflexive = λ x. grind (arith, nat_tests);
+  transitive = λ x y z p q. grind (arith, nat_tests);
+  total = λ x y p q. let e : x.0 ≡ y.0 = grind (arith, nat_tests) in λ i. record { 0 = e i };
+}
+
+lex_self : (n : ℕ) (t : Bool) → lex n n t ≡ t
+lex_self n t = grind (arith, nat_tests)
+
+pub size_order : Order size_before
+size_order = record {
+  irreflexive = λ x. lex_self (code x.species) _ ∙ lex_self x.diameter _ ∙ lex_self x.length _ ∙ grind (arith, nat_tests);
+  transitive = size_transitive;
+  total = size_total;
+}

@@ -1,7 +1,7 @@
 use crate::{Body, Species};
 
 // What a yard is asked.
-#[derive(Clone, Copy)]
+#[derive(Clone, Copy, Debug, PartialEq, Eq)]
 pub enum Call {
     Arrive(u32, Body),
     Withdraw(u32),

@@ -1,13 +1,13 @@
 ghost use Rattle.std.specs.Prelude.{◌≡◌, ℕ, ◌≤◌, Bool, true, false, Decides};
+ghost use Rattle.std.proofs.Common.{rules};
 ghost use Rattle.logs.specs.Limits.{TagOk};
 ghost use Rattle.logs.specs.Orders.{tag_before, size_before};
-ghost use Rattle.std.proofs.Common.{rules};
-ghost use Rattle.logs.specs.Lex.{size_transitive, size_total};
+ghost use Rattle.logs.specs.Lex.{tag_order, size_order};
 
 use crate::{Limits, Species};
 use ordered::Key;
 
-#[derive(Clone, Copy)]
+#[derive(Clone, Copy, Debug, PartialEq, Eq, PartialOrd, Ord)]
 pub struct Tag(pub u32);
 
 impl Tag {
@@ -21,31 +21,23 @@ impl Tag {
 impl Key for Tag {
     const WIDTH: usize = 15;
 
+    ghost WIDTH = { 15 };
+
     ghost before = { tag_before };
 
-    ghost width = { 15 };
-
-    ghost irreflexive = { Prim.search rules };
-
-    ghost transitive = { Prim.search rules };
-
-    ghost total = { Prim.search rules };
+    ghost ordered = { tag_order };
 
     ghost narrowest = { Prim.search rules };
 
     ghost widest = { Prim.search rules };
 
-    fn node_width() -> usize {
-        Self::WIDTH
-    }
-
     fn is_before(&self, other: &Tag) -> bool {
-        self.0 < other.0
+        self < other
     }
 }
 
-// The tag comes last: it tells logs of one size apart.
-#[derive(Clone, Copy)]
+// Compared by its fields in this sequence. The tag comes last: it tells logs of one size apart.
+#[derive(Clone, Copy, Debug, PartialEq, Eq, PartialOrd, Ord)]
 pub struct Size {
     pub species: Species,
     pub diameter: u16,
@@ -56,36 +48,17 @@ pub struct Size {
 impl Key for Size {
     const WIDTH: usize = 7;
 
+    ghost WIDTH = { 7 };
+
     ghost before = { size_before };
 
-    ghost width = { 7 };
-
-    ghost irreflexive = { Prim.search rules };
-
-    ghost transitive = { λ a b c p q. size_transitive a b c p q };
-
-    ghost total = { λ a b p q. size_total a b p q };
+    ghost ordered = { size_order };
 
     ghost narrowest = { Prim.search rules };
 
     ghost widest = { Prim.search rules };
 
-    fn node_width() -> usize {
-        Self::WIDTH
-    }
-
     fn is_before(&self, other: &Size) -> bool {
-        let a = self.species.code();
-        let b = other.species.code();
-        if a != b {
-            return a < b;
-        }
-        if self.diameter != other.diameter {
-            return self.diameter < other.diameter;
-        }
-        if self.length != other.length {
-            return self.length < other.length;
-        }
-        self.tag < other.tag
+        self < other
     }
 }

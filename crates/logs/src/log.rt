@@ -3,14 +3,14 @@ ghost use Rattle.logs.specs.Limits.{BodyOk};
 
 use crate::{Limits, Species};
 
-#[derive(Clone, Copy)]
+#[derive(Clone, Copy, Debug, PartialEq, Eq)]
 pub enum Place {
     Standing,
     AtSaw,
 }
 
 // The diameter is in millimetres, the length in centimetres.
-#[derive(Clone, Copy)]
+#[derive(Clone, Copy, Debug, PartialEq, Eq)]
 pub struct Body {
     pub species: Species,
     pub diameter: u16,
@@ -23,20 +23,20 @@ impl Body {
     pub fn fits(self) -> bool
         ensures { Decides result (BodyOk self) }
     {
-        Limits::DIAMETER.allow(self.diameter as u32)
-            && Limits::LENGTH.allow(self.length as u32)
-            && Limits::BAY.allow(self.bay as u32)
+        Limits::DIAMETER.allow(u32::from(self.diameter))
+            && Limits::LENGTH.allow(u32::from(self.length))
+            && Limits::BAY.allow(u32::from(self.bay))
     }
 }
 
 // All of a log but its tag.
-#[derive(Clone, Copy)]
+#[derive(Clone, Copy, Debug, PartialEq, Eq)]
 pub struct Rest {
     pub body: Body,
     pub place: Place,
 }
 
-#[derive(Clone, Copy)]
+#[derive(Clone, Copy, Debug, PartialEq, Eq)]
 pub struct Log {
     pub tag: u32,
     pub rest: Rest,

@@ -1,7 +1,8 @@
 ghost use Rattle.std.specs.Prelude.{◌≡◌};
 ghost use Rattle.logs.specs.Codes.{code, letter_of, species_of};
 
-#[derive(Clone, Copy)]
+// In the order of their codes.
+#[derive(Clone, Copy, Debug, PartialEq, Eq, PartialOrd, Ord)]
 pub enum Species {
     Spruce,
     Pine,
@@ -14,12 +15,7 @@ impl Species {
     pub fn code(self) -> u8
         ensures { result ≡ code self }
     {
-        match self {
-            Species::Spruce => 0,
-            Species::Pine => 1,
-            Species::Larch => 2,
-            Species::Douglas => 3,
-        }
+        self as u8
     }
 
     pub fn letter(self) -> u8

@@ -12,6 +12,11 @@ abbrev pub After : {K R : Type 0} → (K → K → Bool) → K → List (K × R)
 After b k [] = Unit {0}
 After b k (p ∷ ps) = (b k p.0 ≡ true) × After b k ps
 
+-- each key of the row is before k
+abbrev pub Before : {K R : Type 0} → (K → K → Bool) → K → List (K × R) → Type 0
+Before b k [] = Unit {0}
+Before b k (p ∷ ps) = (b p.0 k ≡ true) × Before b k ps
+
 -- each key is before the next
 abbrev pub Ascending : {K R : Type 0} → (K → K → Bool) → List (K × R) → Type 0
 Ascending b [] = Unit {0}

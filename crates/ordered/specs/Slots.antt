@@ -1,5 +1,5 @@
 -- What a row of slots holds.
-use Rattle.std.specs.Prelude.{◌≡◌, ℕ, min, Bool, true, false, List, [], ◌∷◌}
+use Rattle.std.specs.Prelude.{◌≡◌, ℕ, min, Bool, true, false, cond, List, [], ◌∷◌, Some, None, Option}
 use Rattle.ordered.specs.declared.slot.Slot.{Slot}
 
 -- Of the slots of a row no more than 1,048,575 count.
@@ -33,3 +33,8 @@ Holds (p ∷ ps) (s ∷ ss) = Shows s p × Holds ps ss
 -- the filled slots come first
 abbrev pub Packed : {K R : Type 0} → List (Slot K R) → Type 0
 Packed ss = Holds (pairs ss) ss
+
+-- the first key found in the slots
+abbrev pub first_key : {K R : Type 0} → List (Slot K R) → Option K
+first_key [] = None
+first_key (s ∷ ss) = cond s.filled (Some s.key) (first_key ss)

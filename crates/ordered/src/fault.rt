@@ -2,23 +2,18 @@ ghost use Rattle.std.specs.Prelude.{◌≡◌};
 ghost use Rattle.ordered.specs.Faults.{fault_number};
 
 // Why an index refuses a change.
-#[derive(Clone, Copy)]
+#[derive(Clone, Copy, Debug, PartialEq, Eq)]
 pub enum Fault {
-    NotAfter,
-    Full,
-    Present,
-    Absent,
+    NotAfter = 31,
+    Full = 32,
+    Present = 33,
+    Absent = 34,
 }
 
 impl Fault {
     pub fn number(self) -> u8
         ensures { result ≡ fault_number self }
     {
-        match self {
-            Fault::NotAfter => 31,
-            Fault::Full => 32,
-            Fault::Present => 33,
-            Fault::Absent => 34,
-        }
+        self as u8
     }
 }

@@ -1,28 +1,17 @@
 -- Packed slots once a pair is replaced in them or taken out.
-use Rattle.std.proofs.Common.{◌≡◌, ℕ, suc, ◌+◌, ◌-◌, ◌<◌, ◌≤◌, Bool, true, false, List, [], ◌∷◌, ◌++◌, length, take, drop, set, Some, None, Ok, Err, Option, sym, refl, ap, ◌∙◌, subst, arith}
+use Rattle.std.proofs.Common.{◌≡◌, ℕ, suc, ◌-◌, ◌<◌, Bool, true, false, List, [], ◌∷◌, ◌++◌, length, take, drop, set, Some, None, Ok, Err, Option, sym, refl, ap, ◌∙◌, subst, arith}
 use borrow.Rule.Slice.PartMut.{put_mid}
-use Rattle.std.proofs.lemmas.List.{length-take-le, length-drop, take_all, drop_all, drop-drop, drop-append-le, set_split, append-nil}
+use Rattle.std.proofs.lemmas.List.{take_rest, length-drop, drop_all, append-nil}
 use Rattle.std.proofs.lemmas.Bool.{cond-true, cond-false}
 use Rattle.ordered.specs.declared.fault.Fault.TheVariants.{Absent}
 use Rattle.ordered.specs.declared.slot.Slot.{Slot}
 use Rattle.ordered.specs.Changes.{absent_refusal}
 use Rattle.ordered.specs.Faults.{Outcome}
 use Rattle.ordered.specs.Meaning.{Order, Ascending, holds, updated, removed}
-use Rattle.ordered.specs.Slots.{pairs, Blank, Shows, Holds, Packed}
-use Rattle.slot_rows.proofs.Held.{length_held, held_take, held_drop, held_append, found_there, at}
-use Rattle.slot_rows.proofs.Parts.{put_over}
+use Rattle.ordered.specs.Slots.{pairs, Shows, Holds, Packed}
+use Rattle.slot_rows.proofs.Held.{found_there, at}
+use Rattle.slot_rows.proofs.Parts.{set_over, pulled_out}
 use Rattle.slot_edits.specs.Edits.{Edited}
-
-module _ {K R : Type 0} where
-  blank_more : (ss ts : List (Slot K R)) → Blank ss → Blank ts → Blank (ss ++ ts)
-  blank_more [] ts h f = f
-  blank_more (s ∷ ss) ts h f = (h.0, blank_more ss ts h.1 f)
-
-  -- blank slots after those that hold a row hold no more
-  pub held_more : (row : List (K × R)) (ss ts : List (Slot K R)) → Holds row ss → Blank ts → Holds row (ss ++ ts)
-  held_more [] ss ts h f = blank_more ss ts h f
-  held_more (p ∷ row) [] ts h f = absurd h
-  held_more (p ∷ row) (s ∷ ss) ts h f = (h.0, held_more row ss ts h.1 f)
 
 module _ {K R : Type 0} {b : K → K → Bool} (o : Order b) (k : K) (ss : List (Slot K R)) (packed : Packed ss) (asc : Ascending b (pairs ss)) where
   abbrev row : List (K × R)
@@ -46,28 +35,15 @@ module _ {K R : Type 0} {b : K → K → Bool} (o : Order b) (k : K) (ss : List 
     found_within : n < length row
     found_within = omega (arith, is, (found_there o k row asc h).within)
 
-    pub in_slots : n < length ss
-    in_slots = omega (arith, found_within, length_held row ss packed)
-
     pub replaced : (v : R) (x : Slot K R) → Shows x (k, v) → Edited ss (absent_refusal b row k) (updated b row k v) (Ok (tt {0})) (set ss n x)
     replaced v x s =
         let new : take n row ++ ((k, v) ∷ drop (suc n) row) ≡ updated b row k v = ap (λ m. take m row ++ ((k, v) ∷ drop (suc m) row)) is ∙ sym ((found_there o k row asc h).put v) in
-        accepted (tt {0}) (updated b row k v) (set ss n x) h (subst (λ r. Holds r (set ss n x)) new (subst (Holds _) (sym (set_split ss n x in_slots)) (put_over row ss packed n (k, v) x found_within s)))
+        accepted (tt {0}) (updated b row k v) (set ss n x) h (subst (λ r. Holds r (set ss n x)) new (set_over row ss n (k, v) x found_within packed s))
 
-    pub taken : (x : Slot K R) (end : ℕ) (ys : List (Slot K R)) → x.filled ≡ false → end ≡ length ss → ys ≡ drop 1 (take (end - n) (drop n ss) ++ (x ∷ []))
-        → Edited ss (absent_refusal b row k) (removed b row k) (Ok n) (put_mid n (end - n) ss ys)
-    taken x end ys f en e =
-        let ld = length-drop n ss in
-        let le : length (drop n ss) ≤ end - n = omega (arith, ld, en) in
-        let all : take (end - n) (drop n ss) ≡ drop n ss = take_all (end - n) (drop n ss) le in
-        let none : drop (end - n) (drop n ss) ≡ [] = drop_all (end - n) (drop n ss) le in
-        let q : n + 1 ≡ suc n = omega arith in
-        let mid : ys ≡ drop (suc n) ss ++ (x ∷ []) =
-        e ∙ ap (λ zs. drop 1 (zs ++ (x ∷ []))) all ∙ drop-append-le 1 (drop n ss) (x ∷ []) (omega (arith, ld, in_slots)) ∙ ap (λ zs. zs ++ (x ∷ [])) (drop-drop 1 n ss ∙ ap (λ m. drop m ss) q) in
-        let slots : put_mid n (end - n) ss ys ≡ take n ss ++ (drop (suc n) ss ++ (x ∷ [])) =
-        ap (λ zs. take n ss ++ (ys ++ zs)) none ∙ ap (λ zs. take n ss ++ zs) (append-nil ys ∙ mid) in
+    pub taken : (x : Slot K R) (ys : List (Slot K R)) → x.filled ≡ false → ys ≡ drop 1 (take (length ss - n) (drop n ss) ++ (x ∷ [])) → Edited ss (absent_refusal b row k) (removed b row k) (Ok n) (put_mid n (length ss - n) ss ys)
+    taken x ys f e =
+        let none : drop (length ss - n) (drop n ss) ≡ [] = drop_all (length ss - n) (drop n ss) (omega (arith, length-drop n ss)) in
+        let slots : put_mid n (length ss - n) ss ys ≡ take n ss ++ drop 1 (drop n ss ++ (x ∷ [])) =
+        ap (λ zs. take n ss ++ (ys ++ zs)) none ∙ ap (λ zs. take n ss ++ zs) (append-nil ys ∙ e ∙ ap (λ zs. drop 1 (zs ++ (x ∷ []))) (take_rest ss n)) in
         let new : take n row ++ drop (suc n) row ≡ removed b row k = ap (λ m. take m row ++ drop (suc m) row) is ∙ sym (found_there o k row asc h).taken in
-        let fits : n ≤ length row = omega (arith, found_within) in
-        accepted n (removed b row k) (put_mid n (end - n) ss ys) h (subst (λ r. Holds r (put_mid n (end - n) ss ys)) new (subst (Holds _) (sym slots)
-        (held_append (take n row) (drop (suc n) row) (take n ss) (drop (suc n) ss ++ (x ∷ [])) (length-take-le n ss (omega (arith, in_slots)) ∙ sym (length-take-le n row fits)) (held_take n row ss fits packed)
-        (held_more (drop (suc n) row) (drop (suc n) ss) (x ∷ []) (held_drop (suc n) row ss found_within packed) (f, tt)))))
+        accepted n (removed b row k) (put_mid n (length ss - n) ss ys) h (subst (λ r. Holds r (put_mid n (length ss - n) ss ys)) new (subst (Holds _) (sym slots) (pulled_out row ss n x found_within packed f)))

@@ -14,17 +14,11 @@ use slot_rows::{push_down, search};
 pub fn replace<K: Key, R: Copy>(part: &mut [Slot<K, R>], key: K, value: R) -> Result<(), Fault>
     ensures { Packed part.old → Ascending K.Key.before (pairs part.old) → Edited part.old (absent_refusal K.Key.before (pairs part.old) key) (updated K.Key.before (pairs part.old) key value) result part.new }
 {
-    match search(part, key) {
-        Ok(at) => {
-            part[at] = Slot {
-                filled: true,
-                key,
-                value,
-            };
-            Ok(())
-        }
-        Err(_) => Err(Fault::Absent),
-    }
+    let Ok(at) = search(part, key) else {
+        return Err(Fault::Absent);
+    };
+    part[at].value = value;
+    Ok(())
 }
 
 // Takes the pair of a key out; those after it move one place down. Gives the place that it had.
@@ -33,20 +27,13 @@ pub fn remove<K: Key, R: Copy>(part: &mut [Slot<K, R>], key: K) -> Result<usize,
     ensures place { Packed part.old → Ascending K.Key.before (pairs part.old) → IfOk result (λ at. at ≡ before K.Key.before key (pairs part.old)) }
     ensures within { IfOk result (λ at. at < length part.old) }
 {
-    match search(part, key) {
-        Ok(at) => {
-            let gone = part[at];
-            let end = part.len();
-            push_down(
-                &mut part[at..end],
-                Slot {
-                    filled: false,
-                    key,
-                    value: gone.value,
-                },
-            );
-            Ok(at)
-        }
-        Err(_) => Err(Fault::Absent),
-    }
+    let Ok(at) = search(part, key) else {
+        return Err(Fault::Absent);
+    };
+    let gone = Slot {
+        filled: false,
+        ..part[at]
+    };
+    push_down(&mut part[at..], gone);
+    Ok(at)
 }

@@ -53,12 +53,34 @@ module _ {K R : Type 0} where
   held_drop (suc n) (p ∷ ps) [] l h = absurd h
   held_drop (suc n) (p ∷ ps) (s ∷ ss) l h = held_drop n ps ss (omega (arith, l)) h.1
 
+  -- a front of the slots that has the whole row holds it, and blanks follow
+  pub held_front : (n : ℕ) (row : List (K × R)) (ss : List (Slot K R)) → length row ≤ n → Holds row ss → Holds row (take n ss)
+  held_front zero [] ss l h = tt
+  held_front zero (p ∷ ps) ss l h = absurd (omega (arith, l))
+  held_front (suc n) [] [] l h = tt
+  held_front (suc n) [] (s ∷ ss) l h = (h.0, held_front n [] ss (omega arith) h.1)
+  held_front (suc n) (p ∷ ps) [] l h = absurd h
+  held_front (suc n) (p ∷ ps) (s ∷ ss) l h = (h.0, held_front n ps ss (omega (arith, l)) h.1)
+
+  pub blank_past : (n : ℕ) (row : List (K × R)) (ss : List (Slot K R)) → length row ≤ n → Holds row ss → Blank (drop n ss)
+  blank_past n [] ss l h = blank_drop n ss h
+  blank_past zero (p ∷ ps) ss l h = absurd (omega (arith, l))
+  blank_past (suc n) (p ∷ ps) [] l h = absurd h
+  blank_past (suc n) (p ∷ ps) (s ∷ ss) l h = blank_past n ps ss (omega (arith, l)) h.1
+
   -- filled slots, and then slots that hold a row
   pub held_append : (ps qs : List (K × R)) (ss ts : List (Slot K R)) → length ss ≡ length ps → Holds ps ss → Holds qs ts → Holds (ps ++ qs) (ss ++ ts)
   held_append [] qs [] ts e h i = i
   held_append [] qs (s ∷ ss) ts e h i = absurd (omega (arith, e))
   held_append (p ∷ ps) qs [] ts e h i = absurd h
   held_append (p ∷ ps) qs (s ∷ ss) ts e h i = (h.0, held_append ps qs ss ts (omega (arith, e)) h.1 i)
+
+  -- blank slots after those that hold a row hold no more
+  pub held_more : (row : List (K × R)) (ss ts : List (Slot K R)) → Holds row ss → Blank ts → Holds row (ss ++ ts)
+  held_more [] [] ts h f = f
+  held_more [] (s ∷ ss) ts h f = (h.0, held_more [] ss ts h.1 f)
+  held_more (p ∷ ps) [] ts h f = absurd h
+  held_more (p ∷ ps) (s ∷ ss) ts h f = (h.0, held_more ps ss ts h.1 f)
 
   -- a slot that is read within the row shows its pair there
   pub held_at : (n : ℕ) (row : List (K × R)) (ss : List (Slot K R)) (x : Slot K R) → n < length row → Holds row ss → x ≡ get_or ss n x → (x.filled ≡ true) × (head_of (drop n row) ≡ Some (x.key, x.value))
@@ -215,15 +237,10 @@ module _ {K R : Type 0} (b : K → K → Bool) (k : K) where
       step true l ih = ih (omega (arith, l))
       step false l ih = absurd (omega (arith, l))
 
+  -- a search from the slot at the rank of k, and from none
   module _ (ss : List (Slot K R)) (n : ℕ) (is : n ≡ lead (below Lower b k) ss) where
-    pub located_there : there b k ss ≡ true → Ok n ≡ located b k ss
-    located_there t = ap Ok is ∙ sym (cond-true (there b k ss) (Ok (lead (below Lower b k) ss)) (Err (lead (below Lower b k) ss)) t)
+    pub located_at : (x : Slot K R) → n < length ss → x ≡ get_or ss n x → located b k ss ≡ cond (below Upper b k x) (Ok n) (Err n)
+    located_at x l e = rw is (ap (λ t. cond t (Ok (lead (below Lower b k) ss)) (Err (lead (below Lower b k) ss))) (there_at ss x (rw is at l) (rw is at e)))
 
-    pub located_absent : there b k ss ≡ false → Err n ≡ located b k ss
-    located_absent t = ap Err is ∙ sym (cond-false (there b k ss) (Ok (lead (below Lower b k) ss)) (Err (lead (below Lower b k) ss)) t)
-
-    pub there_read : (x : Slot K R) → n < length ss → x ≡ get_or ss n x → there b k ss ≡ below Upper b k x
-    there_read x l e = there_at ss x (subst (λ m. m < length ss) is l) (subst (λ m. x ≡ get_or ss m x) is e)
-
-    pub there_none : length ss ≤ n → there b k ss ≡ false
-    there_none l = there_past ss (subst (λ m. length ss ≤ m) is l)
+    pub located_past : length ss ≤ n → located b k ss ≡ Err n
+    located_past l = rw is (ap (λ t. cond t (Ok (lead (below Lower b k) ss)) (Err (lead (below Lower b k) ss))) (there_past ss (rw is at l)))

@@ -1,5 +1,5 @@
-pub mod Halves
 pub mod Held
+pub mod Leads
 pub mod Looks
 pub mod Parts
 pub mod Shifts

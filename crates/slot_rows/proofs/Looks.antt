@@ -3,7 +3,7 @@ use Rattle.std.proofs.Common.{◌≡◌, ℕ, zero, suc, ◌<◌, ◌≤◌, Boo
 use Rattle.std.proofs.lemmas.Bool.{both_ways, cases_lt}
 use Rattle.ordered.specs.declared.slot.Slot.{Slot}
 use Rattle.ordered.specs.Meaning.{Order, Ascending, lookup, holds, first}
-use Rattle.ordered.specs.Slots.{Blank, Holds}
+use Rattle.ordered.specs.Slots.{Blank, Shows, Holds}
 use Rattle.ordered.proofs.Rows.{absent_there}
 use Rattle.slot_rows.specs.declared.halving.Bound.{Bound}
 use Rattle.slot_rows.specs.declared.halving.Bound.TheVariants.{Lower}
@@ -12,14 +12,14 @@ use Rattle.slot_rows.proofs.Held.{head_of, length_held, held_at, head_past, lead
 
 inside_ok : (t : Bool) (n m : ℕ) → Ok n ≡ cond t (Ok m) (Err m) → (t ≡ true) × (n ≡ m)
 inside_ok true n m e = (refl, cc)
-inside_ok false n m e = let z : ◌≡◌ {A = ℕ} 0 1 = cc in absurd (omega arith)
+inside_ok false n m e = cc
 
 inside_err : (t : Bool) (n m : ℕ) → Err n ≡ cond t (Ok m) (Err m) → (t ≡ false) × (n ≡ m)
-inside_err true n m e = let z : ◌≡◌ {A = ℕ} 0 1 = cc in absurd (omega arith)
+inside_err true n m e = cc
 inside_err false n m e = (refl, cc)
 
-second_inside : {K R : Type 0} (x y : K) (u v : R) → ◌≡◌ {A = Option (K × R)} (Some (x, u)) (Some (y, v)) → u ≡ v
-second_inside {K} {R} x y u v e = let q : ◌≡◌ {A = K × R} (x, u) (y, v) = cc in ap (λ p. p.1) q
+pair_inside : {K R : Type 0} (x y : K) (u v : R) → ◌≡◌ {A = Option (K × R)} (Some (x, u)) (Some (y, v)) → (x ≡ y) × (u ≡ v)
+pair_inside {K} {R} x y u v e = let q : ◌≡◌ {A = K × R} (x, u) (y, v) = cc in (ap (λ p. p.0) q, ap (λ p. p.1) q)
 
 -- a slot past the row is blank
 pub held_past : {K R : Type 0} (n : ℕ) (row : List (K × R)) (ss : List (Slot K R)) (x : Slot K R) → length row ≤ n → n < length ss → Holds row ss → x ≡ get_or ss n x → x.filled ≡ false
@@ -59,13 +59,21 @@ module _ {K R : Type 0} {b : K → K → Bool} (o : Order b) (k : K) (row : List
   pub missing : (n : ℕ) → (Falling (below Lower b k) part → Err n ≡ located b k part) → (holds b row k ≡ false) × (n ≡ at o k row)
   missing n is = inside_err (holds b row k) n (at o k row) (looked (Err n) is)
 
-  pub value_found : (n : ℕ) (x : Slot K R) → (Falling (below Lower b k) part → Ok n ≡ located b k part) → x ≡ get_or part n x → Some x.value ≡ lookup b row k
-  value_found n x is g =
-      let f = found n is in
-      let w = found_there o k row asc f.0 in
-      let r = held_at n row part x (omega (arith, f.1, w.within)) h g in
-      let q : ◌≡◌ {A = Option (K × R)} (Some (x.key, x.value)) (Some (k, w.value)) = sym r.1 ∙ ap (λ m. head_of (drop m row)) f.1 ∙ w.head in
-      ap Some (second_inside x.key k x.value w.value q) ∙ sym w.found
+  module _ (n : ℕ) (x : Slot K R) (is : Falling (below Lower b k) part → Ok n ≡ located b k part) (g : x ≡ get_or part n x) where
+    read_found : (x.filled ≡ true) × (x.key ≡ k) × (Some x.value ≡ lookup b row k)
+    read_found =
+        let f = found n is in
+        let w = found_there o k row asc f.0 in
+        let r = held_at n row part x (omega (arith, f.1, w.within)) h g in
+        let i = pair_inside x.key k x.value w.value (sym r.1 ∙ ap (λ m. head_of (drop m row)) f.1 ∙ w.head) in
+        (r.0, i.0, ap Some i.1 ∙ sym w.found)
+
+    -- the slot that is found, with another value
+    pub shows_found : (v : R) → Shows (record { filled = x.filled; key = x.key; value = v }) (k, v)
+    shows_found v = (read_found.0, read_found.1, refl)
+
+    pub value_found : Some x.value ≡ lookup b row k
+    value_found = read_found.2
 
   pub value_missing : (n : ℕ) → (Falling (below Lower b k) part → Err n ≡ located b k part) → None ≡ lookup b row k
   value_missing n is = sym (absent_there b row k (missing n is).0)

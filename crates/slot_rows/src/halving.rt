@@ -16,13 +16,11 @@ pub enum Bound {
 fn is_below<K: Key, R: Copy>(slot: &Slot<K, R>, key: &K, bound: Bound) -> bool
     ensures { result ≡ below bound K.Key.before key.now slot.now }
 {
-    if !slot.filled {
-        return false;
-    }
-    match bound {
-        Bound::Lower => slot.key.is_before(key),
-        Bound::Upper => !key.is_before(&slot.key),
-    }
+    slot.filled
+        && match bound {
+            Bound::Lower => slot.key.is_before(key),
+            Bound::Upper => !key.is_before(&slot.key),
+        }
 }
 
 // How many slots are below the key, where those that are come first.
@@ -30,18 +28,7 @@ pub fn rank<K: Key, R: Copy>(slots: &[Slot<K, R>], key: K, bound: Bound) -> usiz
     ensures within { result ≤ length slots.now }
     ensures gives { Falling (below bound K.Key.before key) slots.now → result ≡ lead (below bound K.Key.before key) slots.now }
 {
-    let mut low = 0;
-    let mut high = slots.len();
-    while low < high {
-        let mid = low + (high - low) / 2;
-        let slot = slots[mid];
-        if is_below(&slot, &key, bound) {
-            low = mid + 1;
-        } else {
-            high = mid;
-        }
-    }
-    low
+    slots.partition_point(|slot| is_below(slot, &key, bound))
 }
 
 // Where the key stands, or else where it would be put.
@@ -50,11 +37,8 @@ pub fn search<K: Key, R: Copy>(slots: &[Slot<K, R>], key: K) -> Result<usize, us
     ensures gives { Falling (below Lower K.Key.before key) slots.now → result ≡ located K.Key.before key slots.now }
 {
     let at = rank(slots, key, Bound::Lower);
-    if at < slots.len() {
-        let slot = slots[at];
-        if is_below(&slot, &key, Bound::Upper) {
-            return Ok(at);
-        }
+    match slots.get(at) {
+        Some(slot) if is_below(slot, &key, Bound::Upper) => Ok(at),
+        _ => Err(at),
     }
-    Err(at)
 }

@@ -7,15 +7,10 @@ use ordered::Slot;
 pub fn push_up<K: Copy, R: Copy>(part: &mut [Slot<K, R>], slot: Slot<K, R>)
     ensures { part.new ≡ take (length part.old) (slot ∷ part.old) }
 {
-    if part.len() == 0 {
+    if part.is_empty() {
         return;
     }
-    let mut hole = part.len() - 1;
-    while hole > 0 {
-        let moved = part[hole - 1];
-        part[hole] = moved;
-        hole -= 1;
-    }
+    part.rotate_right(1);
     part[0] = slot;
 }
 
@@ -23,17 +18,12 @@ pub fn push_up<K: Copy, R: Copy>(part: &mut [Slot<K, R>], slot: Slot<K, R>)
 pub fn push_down<K: Copy, R: Copy>(part: &mut [Slot<K, R>], slot: Slot<K, R>)
     ensures { part.new ≡ drop 1 (part.old ++ (slot ∷ [])) }
 {
-    if part.len() == 0 {
+    if part.is_empty() {
         return;
     }
+    part.rotate_left(1);
     let last = part.len() - 1;
-    let mut hole = 0;
-    while hole < last {
-        let moved = part[hole + 1];
-        part[hole] = moved;
-        hole += 1;
-    }
-    part[hole] = slot;
+    part[last] = slot;
 }
 
 // Blanks every slot; what key and value it then has is free.

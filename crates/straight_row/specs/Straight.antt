@@ -1,9 +1,6 @@
 -- What a straight row keeps, and what its slots hold after a change.
-use Rattle.std.specs.Prelude.{◌≡◌, ℕ, Bool, List, length, take, drop, Option, Result}
-use Rattle.ordered.specs.declared.fault.Fault.{Fault}
+use Rattle.std.specs.Prelude.{◌≡◌, ℕ, Bool, List, length, take, drop}
 use Rattle.ordered.specs.declared.slot.Slot.{Slot}
-use Rattle.ordered.specs.Changes.{settled, Unmoved}
-use Rattle.ordered.specs.Faults.{Outcome}
 use Rattle.ordered.specs.Meaning.{Ascending}
 use Rattle.ordered.specs.Slots.{countable, pairs, Holds}
 
@@ -26,11 +23,3 @@ pub record Leaves {K R : Type 0} (row : List (K × R)) (old new : List (Slot K R
   pub long : length new ≡ length old
   pub laid : Holds row (counted new)
   pub beyond : drop (countable (length old)) new ≡ drop (countable (length old)) old
-
--- A change of the slots is refused as is due and then changes nothing, or else leaves the row and the count that are given.
-pub record Edited {K R X : Type 0} (b : K → K → Bool) (old : List (Slot K R)) (count : ℕ) (due : Option ℕ) (row : List (K × R)) (grown : ℕ) (r : Result X Fault) (new : List (Slot K R)) : Type 0 where
-  pub outcome : Outcome due r
-  pub unmoved : Unmoved r old new
-  pub straight : Straight b new (settled r grown count)
-  pub after : row_of new ≡ settled r row (row_of old)
-  pub leaves : Leaves (settled r row (row_of old)) old new

@@ -1,7 +1,6 @@
 // The straight row: an ordered index that keeps its pairs in the first slots of a lent row, in key order.
 #![tactic(auto)]
 
-mod edit;
 mod row;
 
 pub use row::StraightRow;

@@ -1,5 +1,5 @@
-use Rattle.straight_row.proofs.Moves.{orderly}
+use Rattle.straight_row.proofs.Moves.{answers}
 use Rattle.straight_row.proofs.row.StraightRowOrderedIndex.capacity.Goals as goal
 
 pub returns : goal.returns
-returns g c = record { meaning = record { gives = λ k. c.min.ensures; orderly = λ k. orderly c.args.self.now.slots.now c.args.self.now.count k } }
+returns g c = record { meaning = answers c.args.self.now _ _ (λ k. c.countable.ensures) }
