@@ -6,7 +6,7 @@ use Rattle.tree_layout.specs.Levels.{leaf_slots, tree_slots, area}
 use Rattle.tree_layout.specs.Rows.{Laid, LayoutOf}
 use Rattle.tree_layout.proofs.Levels.{tree_up, height_below}
 use Rattle.array_tree.specs.Filling.{capacity_of, leaf_area}
-use Rattle.array_tree.specs.Ordered.{tallest, height_in, leaves_in, room_for}
+use Rattle.array_tree.specs.Standing.{tallest, height_in, leaves_in, room_for}
 
 abbrev pub height_at : Option Layout → Option ℕ
 height_at None = None

@@ -1,11 +1,7 @@
 pub mod Answered
 pub mod Blanks
 pub mod Closes
-pub mod Edited
 pub mod Heights
-pub mod Indexed
-pub mod Lands
 pub mod Nexts
-pub mod Orders
 pub mod Packed
 pub mod Wholes

@@ -1,10 +1,9 @@
 -- The next pair of a filling tree.
-use Rattle.std.proofs.Common.{◌≡◌, ℕ, ◌+◌, ◌-◌, ◌<◌, ◌≤◌, Bool, true, false, List, [], ◌∷◌, ◌++◌, length, get_or, take, set, Some, None, Ok, Err, Option, Result, sym, refl, ap, ◌∙◌, subst, subst₂, ⊎_elim, arith}
+use Rattle.std.proofs.Common.{◌≡◌, ℕ, ◌+◌, ◌-◌, ◌<◌, ◌≤◌, Bool, true, List, [], ◌∷◌, ◌++◌, length, get_or, take, set, Some, None, Ok, Option, sym, refl, ap, ◌∙◌, subst, subst₂, arith}
 use borrow.Rule.Slice.Mut.{set_vals}
-use Rattle.std.proofs.lemmas.List.{get_or-take, get_or-drop, length-take, length-drop, length-set, length_push, take-set-le, nil_from_length}
-use Rattle.std.proofs.lemmas.Bool.{cond-true, cond-false, eq-eqb, ne_eqb, cases_Bool}
-use Rattle.ordered.specs.declared.fault.Fault.{Fault}
-use Rattle.ordered.specs.declared.fault.Fault.TheVariants.{NotAfter, Full}
+use Rattle.std.proofs.lemmas.List.{get_or-take, get_or-drop, length-take, length-drop, length-set, length_push, take-set-le}
+use Rattle.std.proofs.lemmas.Bool.{cond-true, cond-false, ne_eqb}
+use Rattle.ordered.specs.declared.key.Key.{Ghosts}
 use Rattle.ordered.specs.declared.slot.Slot.{Slot}
 use Rattle.ordered.specs.Faults.{Outcome}
 use Rattle.ordered.specs.Slots.{countable, pairs, Blank, Holds}
@@ -15,7 +14,7 @@ use Rattle.tree_layout.specs.Rows.{LayoutOf}
 use Rattle.tree_layout.proofs.Areas.{layout_slots, area_is, area_set}
 use Rattle.array_tree.specs.Filling.{Filling, Blanked, fed_row, slot_count, capacity_of, place_of, follows, feed_refusal, filled_with}
 use Rattle.array_tree.specs.declared.filling_tree.FillingTree.{FillingTree}
-use Rattle.array_tree.specs.Trees.{Fills, row_of, Fed}
+use Rattle.array_tree.specs.Trees.{row_of, Fed}
 use Rattle.slot_rows.proofs.Held.{pairs_held, length_held, pairs_blank}
 use Rattle.array_tree.proofs.Blanks.{blank_front, blank_back}
 use Rattle.array_tree.proofs.Packed.{holds_last, holds_push, ascending_push}
@@ -27,62 +26,40 @@ module _ {K R : Type 0} {b : K → K → Bool} {m n : ℕ} {xs : List (Slot K R)
   area_long : length (area p.width p.height xs) ≡ leaf_slots p.width p.height
   area_long = ap length (area_is p xs) ∙ simp (length-take, length-drop) (omega (arith, filling_fits, layout_slots p))
 
-  pub filling_room : n ≤ leaf_slots p.width p.height
+  filling_room : n ≤ leaf_slots p.width p.height
   filling_room = omega (arith, f.counted, length_held (fed_row (Some p) xs) (area p.width p.height xs) f.packed, area_long)
 
-  pub follows_none : (k : K) → n ≡ 0 → follows b (fed_row (Some p) xs) k ≡ true
-  follows_none k e = ap (λ (row : List (K × R)). follows b row k) (nil_from_length (fed_row (Some p) xs) (sym f.counted ∙ e))
-
-  pub follows_last : (k : K) (d : Slot K R) (r : Bool) → 0 < n → r ≡ b (get_or xs ((p.base + n) - 1) d).key k → r ≡ follows b (fed_row (Some p) xs) k
-  follows_last k d r l e =
+  last_follows : (k : K) (d : Slot K R) → 0 < n → b (get_or xs ((p.base + n) - 1) d).key k ≡ follows b (fed_row (Some p) xs) k
+  last_follows k d l =
       let i : n - 1 < leaf_slots p.width p.height = omega (arith, filling_room) in
       let at : p.base + (n - 1) ≡ (p.base + n) - 1 = omega arith in
       let read : get_or (area p.width p.height xs) (n - 1) d ≡ get_or xs ((p.base + n) - 1) d = ap (λ (ys : List (Slot K R)). get_or ys (n - 1) d) (area_is p xs) ∙ get_or-take _ _ _ d i ∙ get_or-drop p.base xs (n - 1) d ∙ ap (λ j. get_or xs j d) at in
-      e ∙ ap (λ (y : Slot K R). b y.key k) (sym read) ∙ sym (holds_last b k (fed_row (Some p) xs) (area p.width p.height xs) (n - 1) d f.packed (sym f.counted ∙ omega arith))
-
-  -- the outcome that is due, by whether the key may follow
-  module _ (k : K) (r : Bool) (e : r ≡ follows b (fed_row (Some p) xs) k) where
-    pub not_after_lem : r ≡ false → Outcome {X = Unit {0}} (feed_refusal b (capacity_of (Some p)) (fed_row (Some p) xs) k) (Err NotAfter)
-    not_after_lem q = subst (λ (d : Option ℕ). Outcome {X = Unit {0}} d (Err NotAfter)) (sym (cond-false _ _ _ (sym e ∙ q))) refl
-
-    pub no_room : r ≡ true → n ≡ capacity_of (Some p) → Outcome {X = Unit {0}} (feed_refusal b (capacity_of (Some p)) (fed_row (Some p) xs) k) (Err Full)
-    no_room q full = subst (λ (d : Option ℕ). Outcome {X = Unit {0}} d (Err Full)) (sym (cond-true _ _ _ (sym e ∙ q) ∙ cond-true _ _ _ (eq-eqb _ _ (sym f.counted ∙ full)))) refl
-
-    pub accepted : r ≡ true → (n ≡ capacity_of (Some p) → ⊥) → Outcome {X = Unit {0}} (feed_refusal b (capacity_of (Some p)) (fed_row (Some p) xs) k) (Ok tt)
-    accepted q free = subst (λ (d : Option ℕ). Outcome {X = Unit {0}} d (Ok tt)) (sym (cond-true _ _ _ (sym e ∙ q) ∙ cond-false _ _ _ (ne_eqb _ _ (λ z. free (f.counted ∙ z))))) tt
-
--- what an accepted pair says
-module _ {K R : Type 0} (b : K → K → Bool) (room : ℕ) (row : List (K × R)) (k : K) (o : Outcome {X = Unit {0}} (feed_refusal b room row k) (Ok tt)) where
-  took_after : follows b row k ≡ true
-  took_after = ⊎_elim (λ e. e) (λ e. absurd (subst (λ (d : Option ℕ). Outcome {X = Unit {0}} d (Ok tt)) (cond-false _ _ _ e) o)) (cases_Bool (follows b row k))
-
-  took_free : length row ≡ room → ⊥
-  took_free e = subst (λ (d : Option ℕ). Outcome {X = Unit {0}} d (Ok tt)) (cond-true _ _ _ took_after ∙ cond-true _ _ _ (eq-eqb _ _ e)) o
+      ap (λ (y : Slot K R). b y.key k) (sym read) ∙ sym (holds_last b k (fed_row (Some p) xs) (area p.width p.height xs) (n - 1) d f.packed (sym f.counted ∙ omega arith))
 
 module _ {K R : Type 0} (b : K → K → Bool) (transitive : (x y z : K) → b x y ≡ true → b y z ≡ true → b x z ≡ true) (m n : ℕ) (xs : List (Slot K R)) (k : K) (v : R) where
-  -- the tree after an accepted pair
-  pub fed_more : (layout : Option Layout) → Filling b m xs layout n → Outcome {X = Unit {0}} (feed_refusal b (capacity_of layout) (fed_row layout xs) k) (Ok tt)
+  -- the tree with one more pair
+  fed_more : (layout : Option Layout) → Filling b m xs layout n → follows b (fed_row layout xs) k ≡ true → (n ≡ capacity_of layout → ⊥)
       → Filling b m (set xs (place_of layout n) (filled_with k v)) layout (n + 1) × (fed_row layout (set xs (place_of layout n) (filled_with k v)) ≡ fed_row layout xs ++ ((k, v) ∷ []))
-  fed_more None f o = absurd o
-  fed_more (Some p) f o = (
+  fed_more None f after free = absurd (free f.counted)
+  fed_more (Some p) f after free = (
     record {
       laid = subst (λ l. LayoutOf m (countable l) (Some p)) (sym (length-set xs (p.base + n) (filled_with k v))) f.laid;
       above = subst Blank (sym (take-set-le p.base xs (p.base + n) (filled_with k v) (omega arith))) f.above;
       packed = subst₂ Holds (sym row) (sym slots) held;
-      ascending = subst (Ascending b) (sym row) (ascending_push b transitive k v (fed_row (Some p) xs) f.ascending (took_after b (capacity_of (Some p)) (fed_row (Some p) xs) k o));
+      ascending = subst (Ascending b) (sym row) (ascending_push b transitive k v (fed_row (Some p) xs) f.ascending after);
       counted = ap (λ c. c + 1) f.counted ∙ sym (ap length row ∙ length_push (fed_row (Some p) xs) (k, v));
     },
     row,
   )
     where
-      free : n < leaf_slots p.width p.height
-      free = let no : n ≡ leaf_slots p.width p.height → ⊥ = λ e. took_free b (capacity_of (Some p)) (fed_row (Some p) xs) k o (sym f.counted ∙ e) in omega (arith, filling_room f)
+      within : n < leaf_slots p.width p.height
+      within = omega (arith, filling_room f, free)
 
       slots : area p.width p.height (set xs (p.base + n) (filled_with k v)) ≡ set (area p.width p.height xs) n (filled_with k v)
-      slots = area_set p xs n (filled_with k v) free
+      slots = area_set p xs n (filled_with k v) within
 
       held : Holds (fed_row (Some p) xs ++ ((k, v) ∷ [])) (set (area p.width p.height xs) n (filled_with k v))
-      held = holds_push k v (fed_row (Some p) xs) (area p.width p.height xs) n f.packed f.counted (omega (arith, free, area_long f))
+      held = holds_push k v (fed_row (Some p) xs) (area p.width p.height xs) n f.packed f.counted (omega (arith, within, area_long f))
 
       row : fed_row (Some p) (set xs (p.base + n) (filled_with k v)) ≡ fed_row (Some p) xs ++ ((k, v) ∷ [])
       row = ap pairs slots ∙ pairs_held (fed_row (Some p) xs ++ ((k, v) ∷ [])) _ held
@@ -120,41 +97,52 @@ made_empty b m xs ys (Some p) l e = (
     row : fed_row (Some p) ys ≡ []
     row = pairs_blank _ leaf
 
--- what `feed` does, from what it does to the slots
-module _ {K R : Type 0} (b : K → K → Bool) (m : ℕ) (k : K) (v : R) (old : FillingTree K R) (p : Layout) (e : old.layout ≡ Some p) (ys : List (Slot K R)) where
-  due_here : (r : Result (Unit {0}) Fault) → (Filling b m old.slots.now (Some p) old.count → Outcome (feed_refusal b (capacity_of (Some p)) (fed_row (Some p) old.slots.now) k) r)
-      → Fills b m old → Outcome (feed_refusal b (capacity_of old.layout) (row_of old) k) r
-  due_here r o = subst (λ (l : Option Layout). Filling b m old.slots.now l old.count → Outcome (feed_refusal b (capacity_of l) (fed_row l old.slots.now) k) r) (sym e) o
+module _ {K R : Type 0} {g : Ghosts K} (t : FillingTree K R g) (p : Layout) (is : t.layout ≡ Some p) where
+  abbrev rules : Option Layout → Type 0
+  rules layout = Filling g.before g.WIDTH t.slots.now layout t.count
 
-  pub fed_refused : (w : Fault) → (Filling b m old.slots.now (Some p) old.count → Outcome {X = Unit {0}} (feed_refusal b (capacity_of (Some p)) (fed_row (Some p) old.slots.now) k) (Err w))
-      → ys ≡ old.slots.now → Fed b m k v (Err w) old (record { slots = set_vals ys old.slots; layout = old.layout; count = old.count })
-  fed_refused w o same = record {
-    outcome = due_here (Err w) o;
-    fills = subst (Fills b m) (sym stays);
-    row = λ f. ap row_of stays;
-    slots = same;
-    layout = refl;
-    count = refl;
-    unmoved = stays;
-  }
-    where
-      stays : ◌≡◌ {A = FillingTree K R} (record { slots = set_vals ys old.slots; layout = old.layout; count = old.count }) old
-      stays = ap (λ (zs : List (Slot K R)). let t : FillingTree K R = record { slots = set_vals zs old.slots; layout = old.layout; count = old.count } in t) same
+  here : rules (Some p)
+  here = subst rules is t.fills
 
-  pub fed_accepted : ((x y z : K) → b x y ≡ true → b y z ≡ true → b x z ≡ true) → (Filling b m old.slots.now (Some p) old.count → Outcome {X = Unit {0}} (feed_refusal b (capacity_of (Some p)) (fed_row (Some p) old.slots.now) k) (Ok tt))
-      → ys ≡ set old.slots.now (p.base + old.count) (filled_with k v) → Fed b m k v (Ok tt) old (record { slots = set_vals ys old.slots; layout = old.layout; count = old.count + 1 })
-  fed_accepted transitive o put = record {
-    outcome = due_here (Ok tt) o;
-    fills = λ f. subst (λ (zs : List (Slot K R)). Filling b m zs old.layout (old.count + 1)) (sym at) (more f).0;
-    row = λ f. ap (fed_row old.layout) at ∙ (more f).1;
-    slots = at;
-    layout = refl;
-    count = refl;
-    unmoved = tt;
-  }
-    where
-      at : ys ≡ set old.slots.now (place_of old.layout old.count) (filled_with k v)
-      at = put ∙ ap (λ (l : Option Layout). set old.slots.now (place_of l old.count) (filled_with k v)) (sym e)
+  -- the place of the next pair
+  pub next_within : p.base + t.count ≤ length t.slots.now
+  next_within = omega (arith, filling_fits here, filling_room here, layout_slots p)
 
-      more : Fills b m old → Filling b m (set old.slots.now (place_of old.layout old.count) (filled_with k v)) old.layout (old.count + 1) × (fed_row old.layout (set old.slots.now (place_of old.layout old.count) (filled_with k v)) ≡ row_of old ++ ((k, v) ∷ []))
-      more f = fed_more b transitive m old.count old.slots.now k v old.layout f (due_here (Ok tt) o f)
+  pub next_small : p.base + t.count ≤ 1048575
+  next_small = omega (arith, filling_room here, layout_slots p, p.small)
+
+  pub next_free : (t.count ≡ leaf_slots p.width p.height → ⊥) → p.base + t.count < length t.slots.now
+  next_free free = omega (arith, filling_fits here, filling_room here, layout_slots p, free)
+
+  -- the slot of the last pair shows whether a key may follow
+  pub follows_last : (k : K) (d : Slot K R) → 0 < t.count → g.before (get_or t.slots.now ((p.base + t.count) - 1) d).key k ≡ follows g.before (row_of t) k
+  follows_last k d l = last_follows here k d l ∙ ap (λ (o : Option Layout). follows g.before (fed_row o t.slots.now) k) (sym is)
+
+  module _ (transitive : (x y z : K) → g.before x y ≡ true → g.before y z ≡ true → g.before x z ≡ true) (k : K) (v : R) (after : follows g.before (row_of t) k ≡ true) (free : t.count ≡ leaf_slots p.width p.height → ⊥) where
+    abbrev ys : List (Slot K R)
+    ys = set t.slots.now (p.base + t.count) (filled_with k v)
+
+    at : ys ≡ set t.slots.now (place_of t.layout t.count) (filled_with k v)
+    at = ap (λ (o : Option Layout). set t.slots.now (place_of o t.count) (filled_with k v)) (sym is)
+
+    spare : t.count ≡ capacity_of t.layout → ⊥
+    spare e = free (e ∙ ap capacity_of is)
+
+    more : Filling g.before g.WIDTH (set t.slots.now (place_of t.layout t.count) (filled_with k v)) t.layout (t.count + 1) × (fed_row t.layout (set t.slots.now (place_of t.layout t.count) (filled_with k v)) ≡ row_of t ++ ((k, v) ∷ []))
+    more = fed_more g.before transitive g.WIDTH t.count t.slots.now k v t.layout t.fills after spare
+
+    pub still_filling : Filling g.before g.WIDTH ys t.layout (t.count + 1)
+    still_filling = subst (λ (zs : List (Slot K R)). Filling g.before g.WIDTH zs t.layout (t.count + 1)) (sym at) more.0
+
+    due : Outcome {X = Unit {0}} (feed_refusal g.before (capacity_of t.layout) (row_of t) k) (Ok tt)
+    due = subst (λ (d : Option ℕ). Outcome {X = Unit {0}} d (Ok tt)) (sym (cond-true _ _ _ after ∙ cond-false _ _ _ (ne_eqb _ _ (λ e. spare (t.fills.counted ∙ e))))) tt
+
+    pub fed : (f : Filling g.before g.WIDTH ys t.layout (t.count + 1)) → Fed k v (Ok tt) t (record { slots = set_vals ys t.slots; layout = t.layout; count = t.count + 1; fills = f })
+    fed f = record {
+      outcome = due;
+      row = ap (fed_row t.layout) at ∙ more.1;
+      slots = at;
+      layout = refl;
+      count = refl;
+      unmoved = tt;
+    }

@@ -1,5 +1,4 @@
 pub mod Filling
-pub mod Ordered
-pub mod Placing
+pub mod Props
 pub mod Standing
 pub mod Trees

@@ -7,7 +7,7 @@ use tree_index::refresh;
 impl<'a, K: Key, R: Copy> FillingTree<'a, K, R> {
     // Fills the index slots, and yields a tree that is searched.
     pub fn close(self) -> ArrayTree<'a, K, R>
-        ensures { Closed K.Key.before K.Key.width self.entry result }
+        ensures { Closed self.entry result }
     {
         let FillingTree {
             slots,
@@ -17,10 +17,6 @@ impl<'a, K: Key, R: Copy> FillingTree<'a, K, R> {
         if let Some(of) = layout {
             refresh(slots, of, 0, of.leaves - 1, None);
         }
-        ArrayTree {
-            slots,
-            layout,
-            count,
-        }
+        ArrayTree { slots, count }
     }
 }

@@ -1,100 +1,78 @@
-ghost use Rattle.std.specs.Prelude.{◌≡◌};
+ghost use Rattle.std.specs.Prelude.{◌≡◌, length};
 ghost use Rattle.ordered.specs.Promises.{Puts, Sets, Takes};
-ghost use Rattle.tree_changes.specs.Changed.{Replaced, Removed};
-ghost use Rattle.array_tree.specs.Ordered.{Does, OrderedKeeps, Ordered, height_of, ordered_room, ordered_row};
-ghost use Rattle.array_tree.specs.Placing.{Landed};
+ghost use Rattle.ordered.specs.Slots.{countable};
+ghost use Rattle.tree_layout.specs.Rows.{LayoutOf};
+ghost use Rattle.tree_changes.specs.Changed.{Landed, Replaced, Removed};
+ghost use Rattle.array_tree.specs.Standing.{row_in, room_in, height_of, Keeps, Does};
 
-use crate::changes::put_pair;
-use crate::{ArrayTree, OrderedTree};
+use crate::ArrayTree;
 use ordered::{Fault, Key, OrderedIndex};
 use slot_rows::Bound;
-use tree_changes::{set_pair, take_pair};
+use tree_changes::{put_pair, set_pair, take_pair};
 use tree_layout::Layout;
 use tree_search::{find, first_from};
 
 impl<'a, K: Key, R: Copy> ArrayTree<'a, K, R> {
-    // The tree as an ordered index.
-    pub fn into_ordered(self) -> OrderedTree<'a, K, R>
-        ensures { Ordered K.Key.before K.Key.width self.entry result }
+    fn layout(&self) -> Option<Layout>
+        ensures { LayoutOf K.Key.WIDTH (countable (length self.now.slots.now)) result }
     {
-        let ArrayTree { slots, count, .. } = self;
-        OrderedTree { slots, count }
+        Layout::of_row::<K>(self.slots.len())
     }
 }
 
 // A row too short for a tree has no layout, and answers as an empty index of capacity 0.
-impl<'a, K: Key, R: Copy> OrderedIndex<K, R> for OrderedTree<'a, K, R> {
-    ghost row = { ordered_row K.Key.width };
+impl<'a, K: Key, R: Copy> OrderedIndex<K, R> for ArrayTree<'a, K, R> {
+    ghost row = { row_in K.Key.WIDTH };
 
-    ghost room = { ordered_room K.Key.width };
+    ghost room = { room_in K.Key.WIDTH };
 
-    ghost kept = { OrderedKeeps K.Key.before K.Key.width };
+    ghost kept = { Keeps K.Key.before K.Key.WIDTH };
 
     fn count(&self) -> usize {
         self.count
     }
 
     fn capacity(&self) -> usize {
-        match Layout::of_row::<K>(self.slots.len()) {
-            Some(layout) => layout.capacity(),
-            None => 0,
-        }
+        self.layout().map_or(0, Layout::capacity)
     }
 
     fn get(&self, key: K) -> Option<R> {
-        match Layout::of_row::<K>(self.slots.len()) {
-            Some(layout) => find(self.slots, layout, key),
-            None => None,
-        }
+        find(self.slots, self.layout()?, key)
     }
 
     fn at_or_above(&self, key: K) -> Option<(K, R)> {
-        match Layout::of_row::<K>(self.slots.len()) {
-            Some(layout) => first_from(self.slots, layout, key, Bound::Lower),
-            None => None,
-        }
+        first_from(self.slots, self.layout()?, key, Bound::Lower)
     }
 
     fn above(&self, key: K) -> Option<(K, R)> {
-        match Layout::of_row::<K>(self.slots.len()) {
-            Some(layout) => first_from(self.slots, layout, key, Bound::Upper),
-            None => None,
-        }
+        first_from(self.slots, self.layout()?, key, Bound::Upper)
     }
 
     fn put(&mut self, key: K, value: R) -> Result<(), Fault>
-        ensures meaning { Puts (ordered_row K.Key.width) (ordered_room K.Key.width) (OrderedKeeps K.Key.before K.Key.width) K.Key.before self.old key value result self.new }
-        ensures slots { OrderedKeeps K.Key.before K.Key.width self.old → Does (height_of K.Key.width self.old) (λ h ys. Landed K.Key.before K.Key.width h self.old.slots.now key value ys) self.old.slots.now result self.new.slots.now }
+        ensures meaning { Puts (row_in K.Key.WIDTH) (room_in K.Key.WIDTH) (Keeps K.Key.before K.Key.WIDTH) K.Key.before self.old key value result self.new }
+        ensures slots { Keeps K.Key.before K.Key.WIDTH self.old → Does (height_of K.Key.WIDTH self.old) (λ h ys. Landed K.Key.before K.Key.WIDTH h self.old.slots.now key value ys) self.old.slots.now result self.new.slots.now }
     {
-        let Some(layout) = Layout::of_row::<K>(self.slots.len()) else {
-            return Err(Fault::Full);
-        };
-        let count = self.count;
+        let layout = self.layout().ok_or(Fault::Full)?;
         put_pair(self.slots, layout, key, value)?;
-        self.count = count.saturating_add(1);
+        self.count = self.count.saturating_add(1);
         Ok(())
     }
 
     fn set(&mut self, key: K, value: R) -> Result<(), Fault>
-        ensures meaning { Sets (ordered_row K.Key.width) (ordered_room K.Key.width) (OrderedKeeps K.Key.before K.Key.width) K.Key.before self.old key value result self.new }
-        ensures slots { OrderedKeeps K.Key.before K.Key.width self.old → Does (height_of K.Key.width self.old) (λ h ys. Replaced K.Key.before K.Key.width h self.old.slots.now key value ys) self.old.slots.now result self.new.slots.now }
+        ensures meaning { Sets (row_in K.Key.WIDTH) (room_in K.Key.WIDTH) (Keeps K.Key.before K.Key.WIDTH) K.Key.before self.old key value result self.new }
+        ensures slots { Keeps K.Key.before K.Key.WIDTH self.old → Does (height_of K.Key.WIDTH self.old) (λ h ys. Replaced K.Key.before K.Key.WIDTH h self.old.slots.now key value ys) self.old.slots.now result self.new.slots.now }
     {
-        match Layout::of_row::<K>(self.slots.len()) {
-            Some(layout) => set_pair(self.slots, layout, key, value),
-            None => Err(Fault::Absent),
-        }
+        let laid = self.layout().ok_or(Fault::Absent)?;
+        set_pair(self.slots, laid, key, value)
     }
 
     fn take(&mut self, key: K) -> Result<(), Fault>
-        ensures meaning { Takes (ordered_row K.Key.width) (ordered_room K.Key.width) (OrderedKeeps K.Key.before K.Key.width) K.Key.before self.old key result self.new }
-        ensures slots { OrderedKeeps K.Key.before K.Key.width self.old → Does (height_of K.Key.width self.old) (λ h ys. Removed K.Key.before K.Key.width h self.old.slots.now key ys) self.old.slots.now result self.new.slots.now }
+        ensures meaning { Takes (row_in K.Key.WIDTH) (room_in K.Key.WIDTH) (Keeps K.Key.before K.Key.WIDTH) K.Key.before self.old key result self.new }
+        ensures slots { Keeps K.Key.before K.Key.WIDTH self.old → Does (height_of K.Key.WIDTH self.old) (λ h ys. Removed K.Key.before K.Key.WIDTH h self.old.slots.now key ys) self.old.slots.now result self.new.slots.now }
     {
-        let Some(layout) = Layout::of_row::<K>(self.slots.len()) else {
-            return Err(Fault::Absent);
-        };
-        let count = self.count;
+        let layout = self.layout().ok_or(Fault::Absent)?;
         take_pair(self.slots, layout, key)?;
-        self.count = count.saturating_sub(1);
+        self.count = self.count.saturating_sub(1);
         Ok(())
     }
 }

@@ -1,10 +1,9 @@
 use ordered::{Key, Slot};
-use tree_layout::Layout;
 
-// A tree that is searched.
+// A tree that is searched and changed. Its layout follows from the number of its slots: a layout beside the lent slots would
+// keep the tree from being a type argument, as a yard's index is.
 #[derive(Drop)]
 pub struct ArrayTree<'a, K: Key, R: Copy> {
     pub(crate) slots: &'a mut [Slot<K, R>],
-    pub(crate) layout: Option<Layout>,
     pub(crate) count: usize,
 }

@@ -5,40 +5,29 @@ ghost use Rattle.std.proofs.Common.{rules};
 use crate::FillingTree;
 use ordered::{Fault, Key, OrderedIndex, Slot};
 
-#[derive(Clone, Copy)]
+#[derive(Clone, Copy, PartialEq, PartialOrd)]
 struct Mark(u8);
 
 impl Key for Mark {
     const WIDTH: usize = 2;
 
+    ghost WIDTH = { 2 };
+
     ghost before = { λ a b. nat_lt a.0 b.0 };
 
-    ghost width = { 2 };
-
-    ghost irreflexive = { Prim.search rules };
-
-    ghost transitive = { Prim.search rules };
-
-    ghost total = { Prim.search rules };
+    ghost ordered = { Prim.search rules };
 
     ghost narrowest = { Prim.search rules };
 
     ghost widest = { Prim.search rules };
 
-    fn node_width() -> usize {
-        Mark::WIDTH
-    }
-
     fn is_before(&self, other: &Mark) -> bool {
-        self.0 < other.0
+        self < other
     }
 }
 
 fn number(r: Result<(), Fault>) -> u8 {
-    match r {
-        Ok(()) => 0,
-        Err(fault) => fault.number(),
-    }
+    r.err().map_or(0, Fault::number)
 }
 
 const STALE: Slot<Mark, u8> = Slot {
@@ -80,10 +69,7 @@ fn a_row_too_short_holds_nothing(rt: HostRuntime) {
 }
 
 fn key_of(pair: Option<(Mark, u8)>) -> u8 {
-    match pair {
-        Some((key, _)) => key.0,
-        None => 0,
-    }
+    pair.map_or(0, |(key, _)| key.0)
 }
 
 // Of nine leaves the last four are empty.
@@ -113,7 +99,7 @@ fn pairs_are_put_and_taken(rt: HostRuntime) {
     for k in 1..5 {
         assert_eq!(rt; number(filling.feed(Mark(10 * k), k)), 0);
     }
-    let mut tree = filling.close().into_ordered();
+    let mut tree = filling.close();
     assert_eq!(rt; number(tree.take(Mark(20))), 0);
     assert_eq!(rt; number(tree.take(Mark(20))), 34);
     assert_eq!(rt; number(tree.put(Mark(25), 5)), 0);

@@ -3,9 +3,10 @@ use Rattle.std.proofs.Common.{◌≡◌, ℕ, zero, suc, ◌+◌, ◌-◌, ◌*�
 use lib.Seq.{drop-append-add}
 use Rattle.std.proofs.lemmas.List.{length-append, length-take-le, length-drop, drop-drop, drop-append-le, take-append-le}
 use Rattle.ordered.specs.declared.slot.Slot.{Slot}
-use Rattle.ordered.specs.Slots.{keep, pairs, Holds}
+use Rattle.ordered.specs.Slots.{keep, pairs, Holds, Packed, first_key}
 use Rattle.slot_rows.proofs.Held.{head_of, held_append}
-use Rattle.leaf_rows.specs.Leaves.{leaf_at, Packed, count_at, first_key}
+use Rattle.tree_layout.specs.Levels.{leaf_at}
+use Rattle.leaf_rows.specs.Leaves.{count_at}
 
 pub suc_times : (p m : ℕ) → suc p * m ≡ p * m + m
 suc_times p m = omega arith

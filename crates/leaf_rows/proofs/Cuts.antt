@@ -1,10 +1,10 @@
 -- A row cut in two at the place of a key.
 use Rattle.std.proofs.Common.{◌≡◌, suc, ◌<◌, Bool, true, false, cond, not, ◌&&◌, List, [], ◌∷◌, ◌++◌, take, drop, is_some, Some, refl, ap, ◌∙◌, ⊎_elim, arith}
 use Rattle.std.proofs.lemmas.Bool.{both_ways, cases_Bool, cond-true, cond-false}
-use Rattle.ordered.specs.Meaning.{Order, After, Ascending, same, lookup, holds, inserted}
+use Rattle.ordered.specs.Meaning.{Order, After, Ascending, same, lookup, holds, inserted, Before}
 use Rattle.ordered.proofs.Rows.{not_same, after_further}
 use Rattle.slot_rows.proofs.Held.{at}
-use Rattle.leaf_rows.specs.Leaves.{Before, Headed}
+use Rattle.tree_layout.specs.Belongs.{Headed}
 
 module _ {K R : Type 0} (b : K → K → Bool) (k : K) where
   pub before_append : (ps qs : List (K × R)) → Before b k ps → Before b k qs → Before b k (ps ++ qs)

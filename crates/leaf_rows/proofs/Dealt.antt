@@ -2,9 +2,10 @@
 use Rattle.std.proofs.Common.{◌≡◌, ℕ, zero, suc, ◌+◌, ◌-◌, ◌*◌, ◌<◌, ◌≤◌, min, List, [], ◌∷◌, length, take, drop, sym, ap, ◌∙◌, subst, mul-le-mul_right, arith}
 use Rattle.std.proofs.lemmas.List.{length-take, length-drop}
 use Rattle.ordered.specs.declared.slot.Slot.{Slot}
-use Rattle.ordered.specs.Slots.{pairs, Blank, Holds}
+use Rattle.ordered.specs.Slots.{pairs, Blank, Holds, Packed}
 use Rattle.slot_rows.proofs.Held.{pairs_held, blank_drop}
-use Rattle.leaf_rows.specs.Leaves.{leaf_at, Packed, count_at}
+use Rattle.tree_layout.specs.Levels.{leaf_at}
+use Rattle.leaf_rows.specs.Leaves.{count_at}
 use Rattle.leaf_rows.proofs.Blocks.{suc_times}
 
 module _ {K R : Type 0} where

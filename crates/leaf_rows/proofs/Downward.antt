@@ -5,10 +5,12 @@ use borrow.Rule.Slice.PartMut.{put_mid}
 use Rattle.std.proofs.lemmas.List.{length-append, length-take-le, length-drop, length_push, take_all, take_at, take-append-drop, take-append-le, drop_at, drop-append-le, drop-drop, get_or-drop, get_or_append_left, set-append_left, set-append_right}
 use Rattle.std.proofs.lemmas.Bool.{eq-eqb, ne_eqb}
 use Rattle.ordered.specs.declared.slot.Slot.{Slot}
-use Rattle.ordered.specs.Meaning.{Order, After, holds}
-use Rattle.ordered.specs.Slots.{pairs, Shows, Holds}
+use Rattle.ordered.specs.Meaning.{Order, After, holds, Before}
+use Rattle.ordered.specs.Slots.{pairs, Shows, Holds, Packed}
 use Rattle.slot_rows.proofs.Held.{head_of, pairs_held, held_take, held_drop, held_append, at}
-use Rattle.leaf_rows.specs.Leaves.{leaf_at, Packed, count_at, Leafed, Before, Belongs, Nearest, PutIn}
+use Rattle.tree_layout.specs.Levels.{leaf_at}
+use Rattle.tree_layout.specs.Belongs.{Belongs}
+use Rattle.leaf_rows.specs.Leaves.{count_at, Leafed, Nearest, PutIn}
 use Rattle.leaf_rows.proofs.Blocks.{suc_times, leaf_within, leaf_behind, leaf_long, full_block, pairs_append, key_of}
 use Rattle.leaf_rows.proofs.Cuts.{before_append, after_append}
 use Rattle.leaf_rows.proofs.Dealt.{dealt_packed, dealt_full}

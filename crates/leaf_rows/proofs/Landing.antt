@@ -3,11 +3,13 @@ use Rattle.std.proofs.Common.{◌≡◌, ℕ, zero, suc, ◌+◌, ◌-◌, ◌*�
 use Rattle.std.proofs.lemmas.List.{length-append, take-append-drop, drop-drop}
 use Rattle.std.proofs.lemmas.Bool.{cases_lt, ne_eqb}
 use Rattle.ordered.specs.declared.slot.Slot.{Slot}
-use Rattle.ordered.specs.Meaning.{Order, After, Ascending, lookup, holds, inserted}
-use Rattle.ordered.specs.Slots.{pairs}
+use Rattle.ordered.specs.Meaning.{Order, After, Ascending, lookup, holds, inserted, Before}
+use Rattle.ordered.specs.Slots.{pairs, Packed, first_key}
 use Rattle.ordered.proofs.Rows.{ascending_inserted}
 use Rattle.slot_rows.proofs.Held.{head_of}
-use Rattle.leaf_rows.specs.Leaves.{leaf_at, Packed, count_at, Leafed, Before, Belongs, Nearest, first_key, PutIn}
+use Rattle.tree_layout.specs.Levels.{leaf_at}
+use Rattle.tree_layout.specs.Belongs.{Belongs}
+use Rattle.leaf_rows.specs.Leaves.{count_at, Leafed, Nearest, PutIn}
 use Rattle.leaf_rows.proofs.Blocks.{suc_times, leaf_before, leaf_inside, leaf_after, drop_after, drop_before, pairs_append, key_of, first_key_lem}
 use Rattle.leaf_rows.proofs.Cuts.{inserted_between, lookup_between}
 

@@ -4,13 +4,15 @@ use borrow.Rule.Slice.PartMut.{put_mid}
 use Rattle.std.proofs.lemmas.List.{length-append, length-take-le, length-drop, take-take, take-append-drop, take-append-le, drop-append-le, drop-drop}
 use Rattle.std.proofs.lemmas.Bool.{cases_lt, eq-eqb, ne_eqb}
 use Rattle.ordered.specs.declared.slot.Slot.{Slot}
-use Rattle.ordered.specs.Meaning.{Order, After, Ascending, holds}
-use Rattle.ordered.specs.Slots.{pairs, Shows, Holds}
+use Rattle.ordered.specs.Meaning.{Order, After, Ascending, holds, Before}
+use Rattle.ordered.specs.Slots.{pairs, Shows, Holds, Packed}
 use Rattle.slot_rows.specs.declared.halving.Bound.TheVariants.{Lower}
 use Rattle.slot_rows.proofs.Held.{head_of, pairs_held, lead_within, at}
 use Rattle.slot_rows.proofs.Parts.{put_in}
 use Rattle.slot_rows.proofs.Splices.{spliced, spliced_long, part_front, pushed_up}
-use Rattle.leaf_rows.specs.Leaves.{leaf_at, Packed, count_at, Leafed, Before, Belongs, Nearest, PutIn}
+use Rattle.tree_layout.specs.Levels.{leaf_at}
+use Rattle.tree_layout.specs.Belongs.{Belongs}
+use Rattle.leaf_rows.specs.Leaves.{count_at, Leafed, Nearest, PutIn}
 use Rattle.leaf_rows.proofs.Blocks.{suc_times, full_block, pairs_append, key_of}
 use Rattle.leaf_rows.proofs.Cuts.{before_append, after_append, ascending_parts, before_place, after_place, place_some}
 use Rattle.leaf_rows.proofs.Dealt.{dealt_packed, dealt_full, dealt_last}

@@ -1,16 +1,9 @@
 -- The leaves of a tree: n stretches of m slots each, one after the other.
-use Rattle.std.specs.Prelude.{◌≡◌, ℕ, suc, ◌+◌, ◌-◌, ◌*◌, ◌<◌, ◌≤◌, min, max, Bool, true, false, cond, List, [], ◌∷◌, length, take, drop, Some, None, Option, ◌==◌}
+use Rattle.std.specs.Prelude.{◌≡◌, ℕ, ◌+◌, ◌-◌, ◌*◌, ◌<◌, ◌≤◌, min, max, Bool, cond, List, length, drop, ◌==◌}
 use Rattle.ordered.specs.declared.slot.Slot.{Slot}
-use Rattle.ordered.specs.Meaning.{After, Ascending, inserted}
-use Rattle.ordered.specs.Slots.{pairs, Holds}
-
--- the slots of leaf p
-abbrev pub leaf_at : {X : Type 0} → ℕ → List X → ℕ → List X
-leaf_at m ys p = take m (drop (p * m) ys)
-
--- the filled slots come first
-abbrev pub Packed : {K R : Type 0} → List (Slot K R) → Type 0
-Packed ss = Holds (pairs ss) ss
+use Rattle.ordered.specs.Meaning.{Ascending, inserted}
+use Rattle.ordered.specs.Slots.{pairs, Packed, first_key}
+use Rattle.tree_layout.specs.Levels.{leaf_at}
 
 -- how many pairs leaf p has
 abbrev pub count_at : {K R : Type 0} → ℕ → List (Slot K R) → ℕ → ℕ
@@ -22,24 +15,6 @@ pub record Leafed {K R : Type 0} (b : K → K → Bool) (m n : ℕ) (ys : List (
   pub packed : (p : ℕ) → p < n → Packed (leaf_at m ys p)
   pub ascending : Ascending b (pairs ys)
 
--- each key of the row is before k
-abbrev pub Before : {K R : Type 0} → (K → K → Bool) → K → List (K × R) → Type 0
-Before b k [] = Unit {0}
-Before b k (p ∷ ps) = (b p.0 k ≡ true) × Before b k ps
-
--- the row begins with a key that is not after k
-abbrev pub Headed : {K R : Type 0} → (K → K → Bool) → K → List (K × R) → Type 0
-Headed b k [] = ⊥
-Headed b k (p ∷ ps) = b k p.0 ≡ false
-
--- The key belongs in leaf t: earlier leaves have keys before it, later leaves keys after it, and unless leaf t is the first
--- it begins with a key that is not after it.
-pub record Belongs {K R : Type 0} (b : K → K → Bool) (m n : ℕ) (ys : List (Slot K R)) (k : K) (t : ℕ) : Type 0 where
-  pub within : t < n
-  pub earlier : Before b k (pairs (take (t * m) ys))
-  pub later : After b k (pairs (drop (suc t * m) ys))
-  pub headed : 0 < t → Headed b k (pairs (leaf_at m ys t))
-
 abbrev pub distance : ℕ → ℕ → ℕ
 distance t p = (t - p) + (p - t)
 
@@ -49,11 +24,6 @@ pub record Nearest {K R : Type 0} (m n : ℕ) (ys : List (Slot K R)) (t r : ℕ)
   pub free : count_at m ys r < m
   pub near : (p : ℕ) → p < n → count_at m ys p < m → distance t r ≤ distance t p
   pub tie : (p : ℕ) → p < n → count_at m ys p < m → distance t p ≡ distance t r → p ≤ r
-
--- the first key found in the slots
-abbrev pub first_key : {K R : Type 0} → List (Slot K R) → Option K
-first_key [] = None
-first_key (s ∷ ss) = cond s.filled (Some s.key) (first_key ss)
 
 -- The leaves once a pair has been put in for leaf t: it is in its place in the row, the nearest leaf with a free slot has one
 -- pair more and every other leaf as many as before; and the first keys from a leaf on change only for leaves between the two.

@@ -1,5 +1,5 @@
 -- What putting a pair into the leaves answers and does.
-use Rattle.std.specs.Prelude.{◌≡◌, ℕ, ◌-◌, ◌*◌, Bool, List, ◌++◌, take, drop, Ok, Err, Result}
+use Rattle.std.specs.Prelude.{◌≡◌, ℕ, ◌*◌, Bool, List, Ok, Err, Result}
 use Rattle.ordered.specs.declared.fault.Fault.{Fault}
 use Rattle.ordered.specs.declared.slot.Slot.{Slot}
 use Rattle.ordered.specs.Changes.{put_refusal}
@@ -7,10 +7,6 @@ use Rattle.ordered.specs.Faults.{Outcome}
 use Rattle.ordered.specs.Slots.{pairs}
 use Rattle.leaf_rows.specs.declared.placing.Span.{Span}
 use Rattle.leaf_rows.specs.Leaves.{PutIn}
-
--- the slots from `from` up to `end` replaced
-abbrev pub between : {X : Type 0} → ℕ → ℕ → List X → List X → List X
-between from end mid xs = take from xs ++ (mid ++ drop (end - from) (drop from xs))
 
 -- the slots after a put: as they were if it is refused
 abbrev pub After : {K R : Type 0} → (K → K → Bool) → ℕ → ℕ → List (Slot K R) → K → R → ℕ → Result Span Fault → List (Slot K R) → Type 0

@@ -2,12 +2,11 @@
 use Rattle.std.proofs.Common.{◌≡◌, ℕ, zero, suc, ◌<◌, Bool, true, false, cond, List, [], ◌∷◌, ◌++◌, length, get_or, Some, sym, refl, ap, ◌∙◌, arith}
 use Rattle.std.proofs.lemmas.Bool.{cond-false}
 use Rattle.ordered.specs.declared.slot.Slot.{Slot}
-use Rattle.ordered.specs.Meaning.{Order, After, same, removed, updated}
+use Rattle.ordered.specs.Meaning.{Order, After, same, removed, updated, Before}
 use Rattle.ordered.proofs.Rows.{lookup_after, removed_absent, updated_absent}
 use Rattle.ordered.proofs.Lookups.{less_apart}
+use Rattle.ordered.specs.Slots.{first_key}
 use Rattle.slot_rows.proofs.Held.{head_of}
-use Rattle.tree_search.specs.Belongs.{Before}
-use Rattle.leaf_rows.specs.Leaves.{first_key}
 use Rattle.leaf_rows.proofs.Blocks.{key_of}
 
 module _ {K R : Type 0} {b : K → K → Bool} (o : Order b) (k : K) where

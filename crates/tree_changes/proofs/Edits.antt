@@ -8,21 +8,21 @@ use Rattle.ordered.specs.declared.slot.Slot.{Slot}
 use Rattle.ordered.specs.Changes.{absent_refusal}
 use Rattle.ordered.specs.Faults.{Outcome}
 use Rattle.ordered.specs.Meaning.{Order, Ascending, holds, removed, updated}
-use Rattle.ordered.specs.Slots.{pairs, Holds}
+use Rattle.ordered.specs.Slots.{pairs, Holds, Packed, first_key}
 use Rattle.ordered.proofs.Rows.{ascending_removed, ascending_updated, length_updated}
 use Rattle.ordered.proofs.Lookups.{length_removed}
 use Rattle.slot_rows.proofs.Held.{head_of, pairs_held, found_there, at}
 use Rattle.slot_edits.specs.Edits.{Edited}
 use Rattle.tree_layout.specs.declared.layout.Layout.{Layout}
-use Rattle.tree_layout.specs.Levels.{leaves, leaf_slots, tree_slots, area}
+use Rattle.tree_layout.specs.Levels.{leaves, leaf_slots, tree_slots, area, leaf_at}
 use Rattle.tree_layout.proofs.Areas.{area_is}
 use Rattle.tree_index.specs.Index.{index_key, RuleAt}
 use Rattle.tree_index.specs.Refreshing.{Refreshed}
 use Rattle.tree_index.specs.Standing.{tree_row, Stands, Target}
 use Rattle.tree_index.proofs.Keys.{area_long}
 use Rattle.tree_index.proofs.Leaves.{leaf_part}
-use Rattle.tree_search.proofs.Splits.{belongs}
-use Rattle.leaf_rows.specs.Leaves.{leaf_at, Packed, count_at, Leafed, first_key}
+use Rattle.tree_search.proofs.Splits.{belongs, only_in}
+use Rattle.leaf_rows.specs.Leaves.{count_at, Leafed}
 use Rattle.leaf_rows.proofs.Blocks.{suc_times, leaf_long, leaf_inside, drop_before, pairs_append, key_of}
 use Rattle.leaf_rows.proofs.Cuts.{ascending_parts}
 use Rattle.leaf_rows.proofs.Landing.{stretches, head_front, pick}
@@ -31,7 +31,7 @@ use Rattle.tree_changes.specs.Changed.{StandsWith, Replaced, Removed, Changed}
 use Rattle.tree_changes.proofs.Betweens.{removed_between, updated_between, updated_head, first_within}
 use Rattle.tree_changes.proofs.Lands.{leafed, area_mid, area_renewed, renewed, still, outcome_ok, outcome_err}
 
-ok_there : {X : Type 0} (t : Bool) (x : X) → Outcome (cond t None (Some 34)) (Ok x) → t ≡ true
+pub ok_there : {X : Type 0} (t : Bool) (x : X) → Outcome (cond t None (Some 34)) (Ok x) → t ≡ true
 ok_there true x h = refl
 ok_there false x h = absurd h
 
@@ -126,7 +126,7 @@ module _ {K R : Type 0} {b : K → K → Bool} (o : Order b) (y : Layout) (xs : 
   leaf_ascends = subst (λ us. Ascending b (pairs us)) (sym part_is) (ascending_parts b (pairs S) (pairs C) (ascending_parts b (pairs A) (pairs S ++ pairs C) (subst (Ascending b) rows st.ascending)).1).0
 
   due_is : absent_refusal b (pairs S) k ≡ due
-  due_is = ap (λ (w : Option R). cond (is_some w) None (Some 34)) (sym (belongs o k m h xs t st target).here)
+  due_is = ap (λ (w : Option R). cond (is_some w) None (Some 34)) (sym (only_in o k m h xs t st target).here)
 
   -- a refused change leaves every slot
   pub leaf_refused : {X Y : Type 0} (f : Fault) (does : List (Slot K R) → Type 0) (new : List (K × R)) → Edited {X = X} part (absent_refusal b (pairs part) k) new (Err f) T → Changed {X = Y} due does xs (Err f) mid

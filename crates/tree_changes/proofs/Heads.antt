@@ -1,21 +1,22 @@
--- The first slots of leaves, read one after the other.
-use Rattle.std.proofs.Common.{◌≡◌, ℕ, zero, suc, ◌+◌, ◌-◌, ◌*◌, ◌<◌, ◌≤◌, false, List, [], ◌∷◌, length, get_or, sym, refl, ap, ◌∙◌, subst, ⊎_elim, arith}
-use Rattle.std.proofs.lemmas.Bool.{cases_eq}
+-- The first slots of leaves, gone through from the last leaf down.
+use Rattle.std.proofs.Common.{◌≡◌, ℕ, ◌<◌, ◌≤◌, true, false, List, length, get_or, Some, None, Option, MatchOption, subst, sym, arith}
+use Rattle.std.specs.Option.{unwrap_or}
 use Rattle.ordered.specs.declared.slot.Slot.{Slot}
 
--- within the list the default does not matter
-same_read : {X : Type 0} (xs : List X) (i : ℕ) (d e : X) → i < length xs → get_or xs i d ≡ get_or xs i e
-same_read [] i d e l = absurd (omega (arith, l))
-same_read (x ∷ xs) zero d e l = refl
-same_read (x ∷ xs) (suc i) d e l = same_read xs i d e (omega (arith, l))
+module _ {K R : Type 0} (xs : List (Slot K R)) (at : ℕ → ℕ) where
+  -- the slot `at p` is in the row, and filled or blank
+  abbrev pub FilledAt : ℕ → Type 0
+  FilledAt p = (d : Slot K R) → at p < length xs → (get_or xs (at p) d).filled ≡ true
 
-module _ {K R : Type 0} (xs : List (Slot K R)) where
-  pub head_read : (i : ℕ) (x : Slot K R) → i < length xs → (d : Slot K R) → (get_or xs i d).filled ≡ (get_or xs i x).filled
-  head_read i x l d = ap (λ (s : Slot K R). s.filled) (same_read xs i d x l)
+  abbrev pub BlankAt : ℕ → Type 0
+  BlankAt p = (d : Slot K R) → at p < length xs → (get_or xs (at p) d).filled ≡ false
 
-  pub blank_down : (base m low leaf : ℕ) (x : Slot K R) → base + (low - 1) * m < length xs → 0 < low → (get_or xs (base + (low - 1) * m) x).filled ≡ false
-      → ((p : ℕ) (d : Slot K R) → low ≤ p → p < leaf → (get_or xs (base + p * m) d).filled ≡ false) → (p : ℕ) (d : Slot K R) → low - 1 ≤ p → p < leaf → (get_or xs (base + p * m) d).filled ≡ false
-  blank_down base m low leaf x l pos f rest p d a u = ⊎_elim
-      (λ q. subst (λ i. (get_or xs (base + i * m) d).filled ≡ false) (sym q) (head_read (base + (low - 1) * m) x l d ∙ f))
-      (λ ne. let b : low ≤ p = omega (arith, a, ne, pos) in rest p d b u)
-      (cases_eq p (low - 1))
+  -- the last leaf that has a pair, or else leaf 0
+  pub last_filled : (n leaf : ℕ) (r : Option ℕ) → n ≡ unwrap_or r 0 → ((p : ℕ) → p < leaf → at p < length xs) → MatchOption r ((p : ℕ) → p < leaf → BlankAt p) (λ i. (i < leaf) × FilledAt i × ((p : ℕ) → i < p → p < leaf → BlankAt p))
+      → (n ≤ leaf) × (0 < n → (n < leaf) × ((d : Slot K R) → (get_or xs (at n) d).filled ≡ true)) × ((p : ℕ) (d : Slot K R) → n < p → p < leaf → (get_or xs (at p) d).filled ≡ false)
+  last_filled n leaf None e fits h = (omega arith, λ l. absurd (omega (arith, l, e)), λ p d a b. h p b d (fits p b))
+  last_filled n leaf (Some i) e fits h = (
+    omega (arith, e, h.0),
+    λ l. (omega (arith, e, h.0), subst (λ p. (d : Slot K R) → (get_or xs (at p) d).filled ≡ true) (sym e) (λ d. h.1 d (fits i h.0))),
+    λ p d a b. h.2 p (omega (arith, a, e)) b d (fits p b),
+  )

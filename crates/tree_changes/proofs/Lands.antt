@@ -7,17 +7,17 @@ use Rattle.ordered.specs.declared.fault.Fault.{Fault}
 use Rattle.ordered.specs.Faults.{Outcome}
 use Rattle.ordered.specs.declared.slot.Slot.{Slot}
 use Rattle.ordered.specs.Meaning.{Ascending}
-use Rattle.ordered.specs.Slots.{pairs}
-use Rattle.tree_layout.specs.Levels.{starts, leaves, leaf_slots, tree_slots, area}
+use Rattle.ordered.specs.Slots.{pairs, Packed, first_key}
+use Rattle.tree_layout.specs.Levels.{starts, leaves, leaf_slots, tree_slots, area, leaf_of}
 use Rattle.tree_layout.proofs.Levels.{tree_parts}
-use Rattle.tree_index.specs.Index.{leaf_of, index_key, Names, RuleAt}
-use Rattle.tree_index.specs.Index as index
+use Rattle.tree_index.specs.Index.{index_key, Names, RuleAt}
+use Rattle.ordered.specs.Slots as index
 use Rattle.tree_index.specs.Refreshing.{Ready, Refreshed}
-use Rattle.tree_index.specs.Standing.{Packed, Stands}
+use Rattle.tree_index.specs.Standing.{Stands}
 use Rattle.tree_index.proofs.Keys.{area_long, rest_same}
 use Rattle.tree_index.proofs.Renews.{stands_again}
 use Rattle.tree_index.proofs.Stand.{slot_low, index_pos}
-use Rattle.leaf_rows.specs.Leaves.{Leafed, first_key}
+use Rattle.leaf_rows.specs.Leaves.{Leafed}
 use Rattle.tree_changes.specs.Changed.{StandsWith}
 use Rattle.tree_changes.proofs.Relaying.{Relaid}
 

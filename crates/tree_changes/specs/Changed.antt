@@ -3,10 +3,10 @@ use Rattle.std.specs.Prelude.{◌≡◌, ℕ, ◌+◌, ◌<◌, Bool, cond, List
 use Rattle.ordered.specs.declared.fault.Fault.{Fault}
 use Rattle.ordered.specs.declared.slot.Slot.{Slot}
 use Rattle.ordered.specs.Faults.{Outcome}
-use Rattle.ordered.specs.Meaning.{updated, removed}
+use Rattle.ordered.specs.Meaning.{inserted, updated, removed}
 use Rattle.tree_layout.specs.Levels.{leaves, tree_slots, area}
 use Rattle.tree_index.specs.Standing.{tree_row, Stands, Target}
-use Rattle.leaf_rows.specs.Leaves.{count_at}
+use Rattle.leaf_rows.specs.Leaves.{Nearest, count_at}
 
 -- how many pairs leaf p has
 abbrev pub pairs_in : {K R : Type 0} → ℕ → ℕ → List (Slot K R) → ℕ → ℕ
@@ -18,6 +18,16 @@ pub record StandsWith {K R : Type 0} (b : K → K → Bool) (m h : ℕ) (xs : Li
   pub row_is : tree_row m h ys ≡ row
   pub stands : Stands b m h ys
   pub beyond : drop (tree_slots m h) ys ≡ drop (tree_slots m h) xs
+
+-- The pair is put in its place. Leaf r, the nearest to the target leaf t with a free slot, has one pair more, every other leaf as
+-- many as before.
+pub record Landed {K R : Type 0} (b : K → K → Bool) (m h : ℕ) (xs : List (Slot K R)) (k : K) (v : R) (ys : List (Slot K R)) : Type 0 where
+  pub t : ℕ
+  pub r : ℕ
+  pub target : Target b m h xs k t
+  pub nearest : Nearest m (leaves m h) (area m h xs) t r
+  pub counts : (p : ℕ) → p < leaves m h → pairs_in m h ys p ≡ pairs_in m h xs p + cond (p == r) 1 0
+  pub tree : StandsWith b m h xs (inserted b (tree_row m h xs) k v) ys
 
 -- The value of the key is replaced, and every leaf has as many pairs as before.
 pub record Replaced {K R : Type 0} (b : K → K → Bool) (m h : ℕ) (xs : List (Slot K R)) (k : K) (v : R) (ys : List (Slot K R)) : Type 0 where

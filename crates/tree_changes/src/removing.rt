@@ -20,19 +20,16 @@ fn filled_before<K: Copy, R: Copy>(slots: &[Slot<K, R>], layout: Layout, leaf: u
     ensures filled { 0 < result → (result < leaf) × ((d : Place K R) → (slice_index_or slots.now (layout.base + result * layout.width) d).filled ≡ true) }
     ensures last { (p : ℕ) (d : Place K R) → result < p → p < leaf → (slice_index_or slots.now (layout.base + p * layout.width) d).filled ≡ false }
 {
-    let mut low = leaf;
-    while low > 0 {
-        low -= 1;
-        // The filled slots of a leaf come first.
-        if slots[layout.base + low * layout.width].filled {
-            break;
-        }
-    }
-    low
+    // The filled slots of a leaf come first.
+    (0..leaf)
+        .rev()
+        .find(|low| slots[layout.base + *low * layout.width].filled)
+        .unwrap_or(0)
 }
 
 // Takes the pair of a key out of the one leaf where it can be. Only a leaf's first pair is named by index slots: those of
 // its leaf and of the empty leaves before it.
+#[tactic(auto, using(tree_index::proofs::Keys::leaf_within))]
 pub fn take_pair<K: Key, R: Copy>(
     slots: &mut [Slot<K, R>],
     layout: Layout,

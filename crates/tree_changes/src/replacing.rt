@@ -11,6 +11,7 @@ use tree_layout::Layout;
 use tree_search::target_leaf;
 
 // Replaces the value of a key, in the one leaf where it can be.
+#[tactic(auto, using(tree_index::proofs::Keys::leaf_within))]
 pub fn set_pair<K: Key, R: Copy>(
     slots: &mut [Slot<K, R>],
     layout: Layout,

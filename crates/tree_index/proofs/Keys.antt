@@ -4,13 +4,12 @@ use native.Mathlib.Nat.{one-le-pow}
 use Rattle.std.proofs.lemmas.Bool.{cases_eq}
 use Rattle.std.proofs.lemmas.List.{drop-drop, drop_all, take-append-drop, get_or-take, get_or-drop, get_or-set_same, get_or-set_other, drop-set-lt, same_lists}
 use Rattle.ordered.specs.declared.slot.Slot.{Slot}
-use Rattle.ordered.specs.Slots.{keep, pairs, Blank, Holds}
-use Rattle.tree_layout.specs.Levels.{starts, leaves, leaf_slots, tree_slots, area}
+use Rattle.ordered.specs.Slots.{keep, pairs, Blank, Holds, first_key, Packed}
+use Rattle.tree_layout.specs.Levels.{starts, leaves, leaf_slots, tree_slots, area, leaf_of}
 use Rattle.tree_layout.specs.declared.layout.Layout.{Layout}
 use Rattle.tree_layout.proofs.Areas.{layout_room, layout_slots}
 use Rattle.tree_layout.proofs.Levels.{tree_parts}
-use Rattle.tree_index.specs.Index.{leaf_of, first_key, index_key, IndexAt, Names, RuleAt}
-use Rattle.tree_index.specs.Standing.{Packed}
+use Rattle.tree_index.specs.Index.{index_key, IndexAt, Names, RuleAt}
 use Rattle.tree_index.specs.Refreshing.{Ready, Refreshed}
 use Rattle.tree_index.proofs.Stand.{one_leaf, one_slot, slot_low}
 

@@ -2,13 +2,11 @@
 use Rattle.std.proofs.Common.{◌≡◌, ℕ, zero, suc, ◌+◌, ◌-◌, ◌*◌, ◌<◌, ◌≤◌, List, [], ◌∷◌, take, drop, sym, refl, ap, ◌∙◌, subst, mul-le-mul_right, arith, length-take}
 use Rattle.std.proofs.lemmas.List.{drop-drop, drop-take, drop_all, take-take}
 use Rattle.ordered.specs.declared.slot.Slot.{Slot}
-use Rattle.ordered.specs.Slots.{Blank, Holds}
+use Rattle.ordered.specs.Slots.{Blank, Holds, Packed}
 use Rattle.slot_rows.proofs.Held.{pairs_held}
 use Rattle.tree_layout.specs.declared.layout.Layout.{Layout}
-use Rattle.tree_layout.specs.Levels.{leaves, leaf_slots, area}
+use Rattle.tree_layout.specs.Levels.{leaves, leaf_slots, area, leaf_of}
 use Rattle.tree_layout.proofs.Areas.{layout_room, area_is}
-use Rattle.tree_index.specs.Index.{leaf_of}
-use Rattle.tree_index.specs.Standing.{Packed}
 
 module _ {K R : Type 0} where
   -- slots that hold a row are packed

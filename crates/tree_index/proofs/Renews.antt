@@ -3,10 +3,10 @@ use Rattle.std.proofs.Common.{◌≡◌, ℕ, ◌*◌, ◌<◌, ◌≤◌, Bool,
 use Rattle.std.proofs.lemmas.Bool.{cases_lt}
 use Rattle.ordered.specs.declared.slot.Slot.{Slot}
 use Rattle.ordered.specs.Meaning.{Ascending}
-use Rattle.ordered.specs.Slots.{pairs}
-use Rattle.tree_layout.specs.Levels.{leaves, area}
-use Rattle.tree_index.specs.Index.{leaf_of, RuleAt}
-use Rattle.tree_index.specs.Standing.{tree_row, Packed, Stands}
+use Rattle.ordered.specs.Slots.{pairs, Packed}
+use Rattle.tree_layout.specs.Levels.{leaves, area, leaf_of}
+use Rattle.tree_index.specs.Index.{RuleAt}
+use Rattle.tree_index.specs.Standing.{tree_row, Stands}
 use Rattle.tree_index.specs.Refreshing.{Ready, Refreshed}
 use Rattle.tree_index.proofs.Keys.{area_same, rule_outside}
 

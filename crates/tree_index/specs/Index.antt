@@ -1,16 +1,8 @@
 -- The index slots of a tree with m keys to a node and h levels above its leaves: which leaf each speaks of, and what it says.
-use Rattle.std.specs.Prelude.{◌≡◌, ℕ, suc, ◌+◌, ◌*◌, ◌^◌, ◌<◌, true, false, cond, List, [], ◌∷◌, take, drop, Some, None, Option, slice_index_or}
+use Rattle.std.specs.Prelude.{◌≡◌, ℕ, suc, ◌+◌, ◌*◌, ◌^◌, ◌<◌, true, false, List, drop, Some, None, Option, slice_index_or}
 use Rattle.ordered.specs.declared.slot.Slot.{Slot}
+use Rattle.ordered.specs.Slots.{first_key}
 use Rattle.tree_layout.specs.Levels.{starts, area}
-
--- the slots of leaf p
-abbrev pub leaf_of : {X : Type 0} → ℕ → ℕ → List X → ℕ → List X
-leaf_of m h xs p = take m (drop (p * m) (area m h xs))
-
--- the first key found in the slots
-abbrev pub first_key : {K R : Type 0} → List (Slot K R) → Option K
-first_key [] = None
-first_key (s ∷ ss) = cond s.filled (Some s.key) (first_key ss)
 
 -- the index key of leaf p: the first key found in leaf p or any later leaf
 abbrev pub index_key : {K R : Type 0} → ℕ → ℕ → List (Slot K R) → ℕ → Option K

@@ -1,9 +1,9 @@
 -- Index slots set by their rule.
 use Rattle.std.specs.Prelude.{◌≡◌, ℕ, suc, ◌<◌, ◌≤◌, List, length, Option, slice_index_or}
 use Rattle.ordered.specs.declared.slot.Slot.{Slot}
-use Rattle.tree_layout.specs.Levels.{leaves, tree_slots}
-use Rattle.tree_index.specs.Index.{leaf_of, index_key, IndexAt, RuleAt}
-use Rattle.tree_index.specs.Standing.{Packed}
+use Rattle.ordered.specs.Slots.{Packed}
+use Rattle.tree_layout.specs.Levels.{leaves, tree_slots, leaf_of}
+use Rattle.tree_index.specs.Index.{index_key, IndexAt, RuleAt}
 
 -- the leaves after `low` up to `high` are packed, and `found` is the first key past them
 pub record Ready {K R : Type 0} (m h : ℕ) (xs : List (Slot K R)) (low high : ℕ) (found : Option K) : Type 0 where

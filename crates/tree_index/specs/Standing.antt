@@ -2,17 +2,13 @@
 use Rattle.std.specs.Prelude.{◌≡◌, ℕ, ◌<◌, ◌≤◌, Bool, true, false, not, List, length, Some, None, Option}
 use Rattle.ordered.specs.declared.slot.Slot.{Slot}
 use Rattle.ordered.specs.Meaning.{Ascending}
-use Rattle.ordered.specs.Slots.{pairs, Holds}
-use Rattle.tree_layout.specs.Levels.{leaves, tree_slots, area}
-use Rattle.tree_index.specs.Index.{leaf_of, index_key, RuleAt}
+use Rattle.ordered.specs.Slots.{pairs, Packed}
+use Rattle.tree_layout.specs.Levels.{leaves, tree_slots, area, leaf_of}
+use Rattle.tree_index.specs.Index.{index_key, RuleAt}
 
 -- the ordered row of a tree: the pairs of its leaves
 abbrev pub tree_row : {K R : Type 0} → ℕ → ℕ → List (Slot K R) → List (K × R)
 tree_row m h xs = pairs (area m h xs)
-
--- the filled slots come first
-abbrev pub Packed : {K R : Type 0} → List (Slot K R) → Type 0
-Packed ss = Holds (pairs ss) ss
 
 -- what the slots of a standing tree keep
 pub record Stands {K R : Type 0} (b : K → K → Bool) (m h : ℕ) (xs : List (Slot K R)) : Type 0 where

@@ -1,3 +1,4 @@
 pub mod Areas
 pub mod Levels
 pub mod Rows
+pub mod Sums

@@ -26,3 +26,11 @@ tree_slots m h = starts m (suc h) * m
 -- the slots of the leaves, in order: slot i of leaf p is number p * m + i of them
 abbrev pub area : {X : Type 0} → ℕ → ℕ → List X → List X
 area m h xs = take (leaf_slots m h) (drop (starts m h * m) xs)
+
+-- leaf p of the slots of leaves
+abbrev pub leaf_at : {X : Type 0} → ℕ → List X → ℕ → List X
+leaf_at m ys p = take m (drop (p * m) ys)
+
+-- the slots of leaf p of the tree
+abbrev pub leaf_of : {X : Type 0} → ℕ → ℕ → List X → ℕ → List X
+leaf_of m h xs p = leaf_at m (area m h xs) p

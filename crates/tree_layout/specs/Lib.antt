@@ -1,3 +1,4 @@
+pub mod Belongs
 pub mod Laws
 pub mod Levels
 pub mod Rows

@@ -1,5 +1,6 @@
 ghost use Rattle.std.specs.Prelude.{◌≡◌};
 ghost use Rattle.ordered.specs.Slots.{countable};
+ghost use Rattle.tree_layout.specs.Laws.{Sums};
 ghost use Rattle.tree_layout.specs.Levels.{leaf_slots, tree_slots};
 ghost use Rattle.tree_layout.specs.Rows.{LayoutOf};
 
@@ -8,11 +9,13 @@ use ordered::{Key, MOST_SLOTS};
 
 impl Layout {
     // The layout of a row of `slots` slots for keys of the kind K, unless not even a root fits.
+    #[tactic(auto, using(crate::proofs::Rows::grown_small, crate::proofs::Rows::grown_less, crate::proofs::Sums::sums))]
     pub fn of_row<K: Key>(slots: usize) -> Option<Layout>
-        ensures { LayoutOf K.Key.width (countable slots) result }
+        ensures laid { LayoutOf K.Key.WIDTH (countable slots) result }
+        ensures sums { Sums }
     {
         let counted = slots.min(MOST_SLOTS);
-        let width = K::node_width();
+        let width = K::WIDTH;
         if counted < width {
             return None;
         }
@@ -34,6 +37,7 @@ impl Layout {
     }
 
     // How many pairs the leaves have room for.
+    #[tactic(auto, using(crate::proofs::Areas::layout_room, crate::proofs::Areas::layout_slots))]
     pub fn capacity(self) -> usize
         ensures { result ≡ leaf_slots self.width self.height }
     {
@@ -41,6 +45,7 @@ impl Layout {
     }
 
     // The slots of the whole tree.
+    #[tactic(auto, using(crate::proofs::Areas::layout_slots))]
     pub fn slots(self) -> usize
         ensures { result ≡ tree_slots self.width self.height }
     {

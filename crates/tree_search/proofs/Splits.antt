@@ -3,17 +3,18 @@ use Rattle.std.proofs.Common.{◌≡◌, ℕ, zero, suc, ◌+◌, ◌*◌, ◌<�
 use Rattle.std.proofs.lemmas.Bool.{both_ways, cases_Bool, not-true, not-false, false≢true, cond-true, cond-false}
 use Rattle.std.proofs.lemmas.List.{drop-drop, take-append-drop}
 use Rattle.ordered.specs.declared.slot.Slot.{Slot}
-use Rattle.ordered.specs.Meaning.{Order, After, Ascending, same, lookup, first}
-use Rattle.ordered.specs.Slots.{keep, pairs}
+use Rattle.ordered.specs.Meaning.{Order, After, Ascending, same, lookup, first, Before}
+use Rattle.ordered.specs.Slots.{keep, pairs, first_key, Packed}
 use Rattle.ordered.proofs.Rows.{lookup_after}
 use Rattle.slot_rows.specs.declared.halving.Bound.{Bound}
 use Rattle.slot_rows.specs.declared.halving.Bound.TheVariants.{Lower, Upper}
 use Rattle.slot_rows.specs.Ranks.{key_below}
-use Rattle.tree_layout.specs.Levels.{area}
-use Rattle.tree_index.specs.Index.{leaf_of, first_key, index_key}
-use Rattle.tree_index.specs.Standing.{tree_row, Packed, Stands, not_after, Target}
-use Rattle.tree_index.proofs.Keys.{or_else}
-use Rattle.tree_search.specs.Belongs.{Before, Belongs}
+use Rattle.tree_layout.specs.Levels.{leaves, area, leaf_of}
+use Rattle.tree_layout.specs.Belongs.{Headed, Belongs}
+use Rattle.tree_index.specs.Index.{index_key}
+use Rattle.tree_index.specs.Standing.{tree_row, Stands, not_after, Target}
+use Rattle.tree_index.proofs.Keys.{or_else, index_next}
+use Rattle.tree_search.specs.Belongs.{OnlyIn}
 use Rattle.tree_search.proofs.Walks.{not_both, first_not_after, ascending_drop}
 
 pub pairs_append : {K R : Type 0} (a c : List (Slot K R)) → pairs (a ++ c) ≡ pairs a ++ pairs c
@@ -104,15 +105,27 @@ module _ {K R : Type 0} {b : K → K → Bool} (o : Order b) (key : K) where
     earlier_keys zero l = rw (zero-mul m) tt
     earlier_keys (suc u) l = before_take (suc u * m) (area m h xs) st.ascending (l (omega arith))
 
-    pub belongs : Belongs b m h xs key t
+    -- a leaf with an index key that the next leaf does not have begins with it
+    headed_by : (ss : List (Slot K R)) (next : Option K) → not_after b key (or_else (first_key ss) next) ≡ true → not_after b key next ≡ false → Headed b key (pairs ss)
+    headed_by [] next p n = absurd (both_ways (not_after b key next) n p)
+    headed_by (s ∷ ss) next p n =
+        (elim s.filled as (λ t. not_after b key (or_else (cond t (Some s.key) (first_key ss)) next) ≡ true → Headed b key (keep t (s.key, s.value) (pairs ss))) [ true ↦ λ p. not-true _ p | false ↦ λ p. headed_by ss next p n ]) p
+
+    pub belongs : Belongs b m (leaves m h) (area m h xs) key t
     belongs =
-        let before = earlier_keys t target.low in
-        let after = after_all (drop (suc t * m) (area m h xs)) (ascending_drop b o.transitive key (suc t * m) (area m h xs) st.ascending) (target.high (suc t) (omega arith)) in
+        let e : t + 1 ≡ suc t = omega arith in
         record {
-          earlier = before;
-          later = after;
-          here = ap (λ (r : List (K × R)). lookup b r key) (row_parts m h xs t) ∙ lookup_skip (pairs (take (t * m) (area m h xs))) _ before ∙ lookup_front (pairs (leaf_of m h xs t)) _ after;
+          within = target.within;
+          earlier = earlier_keys t target.low;
+          later = after_all (drop (suc t * m) (area m h xs)) (ascending_drop b o.transitive key (suc t * m) (area m h xs) st.ascending) (target.high (suc t) (omega arith));
+          headed = λ l. headed_by (leaf_of m h xs t) (index_key m h xs (t + 1)) (subst (λ k. not_after b key k ≡ true) (index_next m h t xs) (target.low l)) (target.high (t + 1) (omega arith));
         }
+
+    pub only_in : OnlyIn b m h xs key t
+    only_in = record {
+      belongs = belongs;
+      here = ap (λ (r : List (K × R)). lookup b r key) (row_parts m h xs t) ∙ lookup_skip (pairs (take (t * m) (area m h xs))) _ belongs.earlier ∙ lookup_front (pairs (leaf_of m h xs t)) _ belongs.later;
+    }
 
     module _ (f : K → Bool) (low : (k : K) → b k key ≡ true → f k ≡ false) (high : (k : K) → b key k ≡ true → f k ≡ true) where
       first_skip : (P Q : List (K × R)) → Before b key P → first f (P ++ Q) ≡ first f Q
@@ -193,7 +206,7 @@ module _ {K R : Type 0} {b : K → K → Bool} (o : Order b) (key : K) (m h : �
   leaf_known = subst (λ (ss : List (Slot K R)). Packed ss × Ascending b (pairs ss)) (sym is) (st.packed t target.within, leaf_ascending b m h xs t st)
 
   pub find_in : (r : Option R) → (Packed part → Ascending b (pairs part) → r ≡ lookup b (pairs part) key) → r ≡ lookup b (tree_row m h xs) key
-  find_in r f = f leaf_known.0 leaf_known.1 ∙ ap (λ (ss : List (Slot K R)). lookup b (pairs ss) key) is ∙ sym (belongs o key m h xs t st target).here
+  find_in r f = f leaf_known.0 leaf_known.1 ∙ ap (λ (ss : List (Slot K R)). lookup b (pairs ss) key) is ∙ sym (only_in o key m h xs t st target).here
 
   module _ (bound : Bound) where
     pub pair_in : (x : K × R) → (Packed part → Ascending b (pairs part) → Some x ≡ first (λ q. not (key_below bound b key q)) (pairs part)) → Some x ≡ first (λ q. not (key_below bound b key q)) (tree_row m h xs)

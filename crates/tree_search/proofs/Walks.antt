@@ -5,12 +5,12 @@ use Rattle.std.proofs.lemmas.Bool.{both_ways, not-true, false≢true, cases_lt}
 use Rattle.std.proofs.lemmas.List.{drop-drop, get_or-take, get_or-drop}
 use Rattle.ordered.specs.declared.slot.Slot.{Slot}
 use Rattle.ordered.specs.Meaning.{After, Ascending}
-use Rattle.ordered.specs.Slots.{keep, pairs}
+use Rattle.ordered.specs.Slots.{keep, pairs, first_key}
 use Rattle.slot_rows.specs.declared.halving.Bound.TheVariants.{Upper}
 use Rattle.slot_rows.specs.Ranks.{below, lead, Fails, Falling}
 use Rattle.tree_layout.specs.Levels.{starts, tree_slots, area}
 use Rattle.tree_layout.proofs.Levels.{starts_pow, starts_up}
-use Rattle.tree_index.specs.Index.{first_key, index_key, place, Names}
+use Rattle.tree_index.specs.Index.{index_key, place, Names}
 use Rattle.tree_index.specs.Standing.{Stands, not_after, Target}
 use Rattle.tree_index.proofs.Stand.{node_below, child_below}
 use Rattle.tree_index.proofs.Keys.{index_past}

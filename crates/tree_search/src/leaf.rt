@@ -1,10 +1,8 @@
 ghost use Rattle.std.specs.Prelude.{◌≡◌, ◌<◌, ◌≤◌, not, [], length};
 ghost use Rattle.ordered.specs.Meaning.{Ascending, lookup, first};
-ghost use Rattle.ordered.specs.Slots.{pairs};
+ghost use Rattle.ordered.specs.Slots.{pairs, Packed};
 ghost use Rattle.slot_rows.specs.Ranks.{key_below};
-ghost use Rattle.tree_layout.specs.Levels.{tree_slots};
-ghost use Rattle.tree_index.specs.Index.{leaf_of};
-ghost use Rattle.tree_index.specs.Standing.{Packed};
+ghost use Rattle.tree_layout.specs.Levels.{tree_slots, leaf_of};
 
 use ordered::{Key, Slot};
 use slot_rows::{Bound, rank, search};

@@ -7,7 +7,7 @@ pub returns-then-slots : goal.returns-then-slots
 returns-then-slots g c = record { within = omega (arith, some_leaf c.args.layout); target = λ st. absurd (omega (arith, st.fits)) }
 
 pub loop-level-init : goal.loop-level-init
-loop-level-init g c = walked_root g.K.Key.before g.met.K.Key.transitive c.args.layout.width c.args.layout.height c.args.layout.narrowest c.args.slots.now c.args.key
+loop-level-init g c = walked_root g.K.Key.before g.met.K.Key.ordered.transitive c.args.layout.width c.args.layout.height c.args.layout.narrowest c.args.slots.now c.args.key
 
 pub overflow_add-from : goal.overflow_add-from
 overflow_add-from g c = let v = c.loop-level.invariant in omega (arith, node_small _ _ _ _ _ _ v.start v.within c.loop-level-test.true c.args.layout.narrowest (le_refl _), c.args.layout.small)
@@ -40,10 +40,10 @@ overflow_add-at-in-loop-level g c =
 
 pub loop-level-preserved : goal.loop-level-preserved
 loop-level-preserved g c =
-    walked_child g.K.Key.before g.met.K.Key.transitive c.args.layout.width c.args.layout.height c.args.layout.narrowest c.args.slots.now c.args.key c.loop-level.level c.loop-level.first c.loop-level.at c.rank-child.result _ refl
+    walked_child g.K.Key.before g.met.K.Key.ordered.transitive c.args.layout.width c.args.layout.height c.args.layout.narrowest c.args.slots.now c.args.key c.loop-level.level c.loop-level.first c.loop-level.at c.rank-child.result _ refl
     c.loop-level-test.true c.rank-child.ensures.within c.rank-child.ensures.gives c.loop-level.invariant
 
 pub returns : goal.returns
 returns g c =
-    let e = walked_leaf g.K.Key.before g.met.K.Key.transitive c.args.layout.width c.args.layout.height c.args.layout.narrowest c.args.slots.now c.args.key c.loop-level.level c.loop-level.first c.loop-level.at c.loop-level-test.false c.loop-level.invariant in
+    let e = walked_leaf g.K.Key.before g.met.K.Key.ordered.transitive c.args.layout.width c.args.layout.height c.args.layout.narrowest c.args.slots.now c.args.key c.loop-level.level c.loop-level.first c.loop-level.at c.loop-level-test.false c.loop-level.invariant in
     record { within = subst (λ n. c.loop-level.at < n) (sym c.args.layout.many) e.0; target = e.1 }

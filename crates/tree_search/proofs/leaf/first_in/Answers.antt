@@ -5,12 +5,12 @@ use Rattle.tree_search.proofs.leaf.first_in.Goals as goal
 
 pub returns-then-at-leaf : goal.returns-then-at-leaf
 returns-then-at-leaf g c = λ packed asc.
-    first_past (order g.met.K.Key.irreflexive g.met.K.Key.transitive g.met.K.Key.total) c.args.key (pairs c.args.leaf.now) c.args.leaf.now asc packed c.args.bound _ c.rank-at.ensures.gives c.if-at-leaf.true
+    first_past g.met.K.Key.ordered c.args.key (pairs c.args.leaf.now) c.args.leaf.now asc packed c.args.bound _ c.rank-at.ensures.gives c.if-at-leaf.true
 
 pub returns-then-slot : goal.returns-then-slot
 returns-then-slot g c = λ packed asc.
-    first_read (order g.met.K.Key.irreflexive g.met.K.Key.transitive g.met.K.Key.total) c.args.key (pairs c.args.leaf.now) c.args.leaf.now asc packed c.args.bound _ c.rank-at.ensures.gives c.index-leaf-at.result c.if-at-leaf.false c.index-leaf-at.is c.if-slot.true
+    first_read g.met.K.Key.ordered c.args.key (pairs c.args.leaf.now) c.args.leaf.now asc packed c.args.bound _ c.rank-at.ensures.gives c.index-leaf-at.result c.if-at-leaf.false c.index-leaf-at.is c.if-slot.true
 
 pub returns-else-slot : goal.returns-else-slot
 returns-else-slot g c = λ packed asc.
-    first_blank (order g.met.K.Key.irreflexive g.met.K.Key.transitive g.met.K.Key.total) c.args.key (pairs c.args.leaf.now) c.args.leaf.now asc packed c.args.bound _ c.rank-at.ensures.gives c.index-leaf-at.result c.index-leaf-at.is c.if-slot.false
+    first_blank g.met.K.Key.ordered c.args.key (pairs c.args.leaf.now) c.args.leaf.now asc packed c.args.bound _ c.rank-at.ensures.gives c.index-leaf-at.result c.index-leaf-at.is c.if-slot.false

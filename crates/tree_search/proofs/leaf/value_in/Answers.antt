@@ -7,8 +7,8 @@ use Rattle.tree_search.proofs.leaf.value_in.Goals as goal
 pub returns-in-Ok : goal.returns-in-Ok
 returns-in-Ok g c = λ packed asc.
     ap (λ x. Some x.value) (sym c.index-leaf-at.is)
-    ∙ value_found (order g.met.K.Key.irreflexive g.met.K.Key.transitive g.met.K.Key.total) c.args.key (pairs c.args.leaf.now) c.args.leaf.now asc packed c.in-Ok.at c.index-leaf-at.result c.in-Ok.ensures.gives c.index-leaf-at.is
+    ∙ value_found g.met.K.Key.ordered c.args.key (pairs c.args.leaf.now) c.args.leaf.now asc packed c.in-Ok.at c.index-leaf-at.result c.in-Ok.ensures.gives c.index-leaf-at.is
 
 pub returns-in-Err : goal.returns-in-Err
 returns-in-Err g c = λ packed asc.
-    value_missing (order g.met.K.Key.irreflexive g.met.K.Key.transitive g.met.K.Key.total) c.args.key (pairs c.args.leaf.now) c.args.leaf.now asc packed _ c.in-Err.ensures.gives
+    value_missing g.met.K.Key.ordered c.args.key (pairs c.args.leaf.now) c.args.leaf.now asc packed _ c.in-Err.ensures.gives

@@ -6,12 +6,12 @@ use Rattle.tree_search.proofs.seek.first_past.Goals as goal
 pub returns-in_err-key : goal.returns-in_err-key
 returns-in_err-key g c = λ st.
     c.from_residual.ensures
-    ∙ past_none (order g.met.K.Key.irreflexive g.met.K.Key.transitive g.met.K.Key.total) c.args.layout.width c.args.layout.height c.args.slots.now c.args.leaf st (c.in_err-key.ensures.gives (omega arith) st.fits (st.indexed _))
+    ∙ past_none g.met.K.Key.ordered c.args.layout.width c.args.layout.height c.args.slots.now c.args.leaf st (c.in_err-key.ensures.gives (omega arith) st.fits (st.indexed _))
 
 pub returns-in_err-value : goal.returns-in_err-value
 returns-in_err-value g c = λ st.
-    absurd (past_lost (order g.met.K.Key.irreflexive g.met.K.Key.transitive g.met.K.Key.total) c.args.layout.width c.args.layout.height c.args.slots.now c.args.leaf st c.in_ok-key.key (c.in_ok-key.ensures.gives (omega arith) st.fits (st.indexed _)) (c.in_err-value.ensures st))
+    absurd (past_lost g.met.K.Key.ordered c.args.layout.width c.args.layout.height c.args.slots.now c.args.leaf st c.in_ok-key.key (c.in_ok-key.ensures.gives (omega arith) st.fits (st.indexed _)) (c.in_err-value.ensures st))
 
 pub returns : goal.returns
 returns g c = λ st.
-    past_found (order g.met.K.Key.irreflexive g.met.K.Key.transitive g.met.K.Key.total) c.args.layout.width c.args.layout.height c.args.slots.now c.args.leaf st c.in_ok-key.key (c.in_ok-key.ensures.gives (omega arith) st.fits (st.indexed _)) c.in_ok-value.value (c.in_ok-value.ensures st)
+    past_found g.met.K.Key.ordered c.args.layout.width c.args.layout.height c.args.slots.now c.args.leaf st c.in_ok-key.key (c.in_ok-key.ensures.gives (omega arith) st.fits (st.indexed _)) c.in_ok-value.value (c.in_ok-value.ensures st)

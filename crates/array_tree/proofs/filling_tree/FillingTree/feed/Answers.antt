@@ -1,16 +1,25 @@
-use Rattle.std.proofs.Common.{arith}
-use Rattle.std.proofs.lemmas.Result.{err_from_is_err_and}
-use Rattle.tree_layout.proofs.Areas.{layout_slots}
-use Rattle.array_tree.proofs.Nexts.{fed_refused, fed_accepted}
+use Rattle.std.proofs.Common.{◌+◌, ◌<◌, length, sym, ◌∙◌, arith, rules}
+use Rattle.array_tree.proofs.Nexts.{next_small, next_free, still_filling, fed}
 use Rattle.array_tree.proofs.filling_tree.FillingTree.feed.Goals as goal
 
-pub returns-in_err-place_next : goal.returns-in_err-place_next
-returns-in_err-place_next g c =
-    let r = err_from_is_err_and c.from_residual.result c.from_residual.ensures.1 in
-    rw (r.1, r.2) (fed_refused g.K.Key.before g.K.Key.width c.args.key c.args.value c.args.self.now c.in-Some.layout c.in-Some.is c.place_next.new.slots c.in_err-place_next.field-0.0 c.in_err-place_next.ensures.outcome c.in_err-place_next.ensures.slots)
+pub overflow_add-layout : goal.overflow_add-layout
+overflow_add-layout g c = omega (arith, next_small c.args.self.now c.in_ok-layout.layout c.in_ok-layout.ensures.ok_part)
+
+pub offset_bounds-self-layout : goal.offset_bounds-self-layout
+offset_bounds-self-layout g c =
+    let i : c.in_ok-layout.layout.base + c.args.self.now.count < length c.args.self.now.slots.now = next_free c.args.self.now c.in_ok-layout.layout c.in_ok-layout.ensures.ok_part (λ e. omega arith) in
+    search rules
+
+pub bounds-self-layout : goal.bounds-self-layout
+bounds-self-layout g c = next_free c.args.self.now c.in_ok-layout.layout c.in_ok-layout.ensures.ok_part (λ e. omega arith)
 
 pub overflow_add-self : goal.overflow_add-self
-overflow_add-self g c = omega (arith, c.in_ok-place_next.ensures.room, layout_slots c.in-Some.layout)
+overflow_add-self g c = omega (arith, next_small c.args.self.now c.in_ok-layout.layout c.in_ok-layout.ensures.ok_part)
+
+pub invariant_of-self : goal.invariant_of-self
+invariant_of-self g c = record {
+  fills = still_filling c.args.self.now c.in_ok-layout.layout c.in_ok-layout.ensures.ok_part g.met.K.Key.ordered.transitive c.args.key c.args.value (sym c.is_after_last.ensures ∙ c.if-not-is_after_last.false) (λ e. omega arith);
+}
 
 pub returns : goal.returns
-returns g c = fed_accepted g.K.Key.before g.K.Key.width c.args.key c.args.value c.args.self.now c.in-Some.layout c.in-Some.is c.place_next.new.slots g.met.K.Key.transitive c.in_ok-place_next.ensures.outcome c.in_ok-place_next.ensures.slots
+returns g c = fed c.args.self.now c.in_ok-layout.layout c.in_ok-layout.ensures.ok_part g.met.K.Key.ordered.transitive c.args.key c.args.value (sym c.is_after_last.ensures ∙ c.if-not-is_after_last.false) (λ e. omega arith) _

@@ -1,9 +1,0 @@
-use ordered::{Key, Slot};
-
-// A standing tree as an ordered index. Its layout follows from the number of its slots: a layout beside the lent slots would
-// keep the tree from being a type argument, as a yard's index is.
-#[derive(Drop)]
-pub struct OrderedTree<'a, K: Key, R: Copy> {
-    pub(crate) slots: &'a mut [Slot<K, R>],
-    pub(crate) count: usize,
-}
