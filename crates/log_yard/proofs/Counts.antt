@@ -2,20 +2,14 @@
 use Rattle.std.proofs.Common.{◌≡◌, ℕ, zero, suc, ◌<◌, ◌≤◌, Bool, true, false, cond, eqb, ◌⊎◌, List, [], ◌∷◌, length, is_some, Some, None, Option, sym, refl, ap, ◌∙◌, inl, inr, arith}
 use Rattle.std.proofs.lemmas.Bool.{cases_eq, eq-eqb, ne_eqb, cond-false, false≢true}
 use Rattle.std.proofs.lemmas.Bool.Decides.{nat_tests}
-use Rattle.ordered.specs.Meaning.{Order, same, Ascending}
+use Rattle.ordered.specs.Meaning.{same, Ascending}
 use Rattle.ordered.proofs.Rows.{lookup_after}
 use Rattle.logs.specs.declared.keys.Tag.{Tag}
 use Rattle.logs.specs.declared.log.Rest.{Rest}
+use Rattle.logs.specs.Lex.{tag_order}
 use Rattle.logs.specs.Orders.{tag_before}
 use Rattle.log_yard.specs.History.{count_below, Loaded, History, log_at, present}
 use Rattle.log_yard.specs.Tells.{at}
-
-pub tag_order : Order tag_before
-tag_order = record {
-  irreflexive = λ x. grind (arith, nat_tests);
-  transitive = λ x y z p q. grind (arith, nat_tests);
-  total = λ x y p q. let e : x.0 ≡ y.0 = grind (arith, nat_tests) in λ i. record { 0 = e i };
-}
 
 pub same_tag : (a b : ℕ) → same tag_before (record { 0 = a }) (record { 0 = b }) ≡ eqb b a
 same_tag a b = grind (arith, nat_tests)

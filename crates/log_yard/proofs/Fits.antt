@@ -1,5 +1,5 @@
 -- The walk to the first standing log that fits.
-use Rattle.std.proofs.Common.{◌≡◌, ℕ, ◌<◌, ◌≤◌, Bool, true, false, not, ◌⊎◌, List, Some, None, sym, ap, ◌∙◌, inl, inr, ⊎_elim, arith}
+use Rattle.std.proofs.Common.{◌≡◌, ℕ, ◌<◌, ◌≤◌, ◌≢◌, Bool, true, false, not, ◌⊎◌, List, Some, None, sym, ap, ◌∙◌, inl, inr, ⊎_elim, arith}
 use Rattle.std.proofs.lemmas.Bool.{not-true, not_from_false, both_ways, le-ltb}
 use Rattle.std.proofs.lemmas.Bool.Decides.{nat_tests}
 use Rattle.ordered.specs.Meaning.{lookup, Ascending, First, at_or_above}
@@ -9,8 +9,7 @@ use Rattle.logs.specs.declared.keys.Size.{Size}
 use Rattle.logs.specs.Orders.{size_before, lex}
 use Rattle.logs.specs.Codes.{code}
 use Rattle.log_yard.specs.Fitting.{KeyFits, FirstFit}
-use Rattle.logs.specs.Lex.{code_injective}
-use Rattle.log_yard.proofs.Rows.{size_order}
+use Rattle.logs.specs.Lex.{code_injective, size_order}
 
 abbrev seek : Species → ℕ → ℕ → Size
 seek s d l = record { species = s; diameter = d; length = l; tag = 0 }
@@ -29,7 +28,7 @@ pub lex_less : (x y : ℕ) (t : Bool) → lex x y t ≡ true → (x < y) ⊎ ((x
 lex_less x y t h = grind (arith, nat_tests)
 
 -- a key that fits is not before the place that is sought
-fits_from : (s : Species) (d₀ d l : ℕ) (k : Size) → KeyFits s d₀ l k → d ≤ k.diameter → size_before k (seek s d l) ≡ false
+pub fits_from : (s : Species) (d₀ d l : ℕ) (k : Size) → KeyFits s d₀ l k → d ≤ k.diameter → size_before k (seek s d l) ≡ false
 fits_from s d₀ d l k f h =
     let e : code k.species ≡ code s = ap code f.0 in
     lex_false (code k.species) (code s) _ (omega (arith, e)) (λ _.
@@ -37,7 +36,7 @@ fits_from s d₀ d l k f h =
     lex_false k.length l _ f.2 (λ _. le-ltb k.tag 0 (omega arith))))
 
 -- a key that is not before it, of the same species
-from_place : (s : Species) (d l : ℕ) (k : Size) → size_before k (seek s d l) ≡ false → k.species ≡ s → (d ≤ k.diameter) × (k.length < l → d < k.diameter)
+pub from_place : (s : Species) (d l : ℕ) (k : Size) → size_before k (seek s d l) ≡ false → k.species ≡ s → (d ≤ k.diameter) × (k.length < l → d < k.diameter)
 from_place s d l k h e =
     let c : code k.species ≡ code s = ap code e in
     ⊎_elim (λ lt. absurd (omega (arith, lt, c)))
@@ -47,8 +46,8 @@ from_place s d l k h e =
     (lex_not k.diameter d _ p.1))
     (lex_not (code k.species) (code s) _ h)
 
-other_species : (s : Species) (d l : ℕ) (k : Size) → size_before k (seek s d l) ≡ false → (code k.species ≡ code s → ⊥) → code s < code k.species
-other_species s d l k h ne = ⊎_elim (λ lt. lt) (λ p. absurd (ne p.0)) (lex_not (code k.species) (code s) _ h)
+other_species : (s : Species) (d l : ℕ) (k : Size) → size_before k (seek s d l) ≡ false → (k.species ≡ s → ⊥) → code s < code k.species
+other_species s d l k h ne = ⊎_elim (λ lt. lt) (λ p. absurd (ne (code_injective k.species s p.0))) (lex_not (code k.species) (code s) _ h)
 
 -- not before k says: at most as large a species, and then as a diameter
 later_species : (x k : Size) → (k ≡ x) ⊎ (size_before x k ≡ true) → code x.species ≤ code k.species
@@ -78,17 +77,17 @@ module _ (sizes : List (Size × ℕ)) (asc : Ascending size_before sizes) (s : S
     least : Beyond → (k : Size) (v : ℕ) → lookup size_before sizes k ≡ Some v → KeyFits s d₀ l k → (k ≡ p.0) ⊎ (size_before p.0 k ≡ true)
     least beyond k v is f = the_first.least k v is (not_from_false _ (fits_from s d₀ d l k f (beyond k v is f)))
 
-    pub none_more : Beyond → (code p.0.species ≡ code s → ⊥) → FirstFit sizes s d₀ l None
+    pub none_more : Beyond → p.0.species ≢ s → FirstFit sizes s d₀ l None
     none_more beyond ne k v is f =
         omega (arith, other_species s d l p.0 not_before ne, later_species p.0 k (least beyond k v is f), ap code f.0)
 
-    pub first_found : Beyond → d₀ ≤ d → code p.0.species ≡ code s → l ≤ p.0.length → FirstFit sizes s d₀ l (Some p.0)
-    first_found beyond h c long =
-        let sp = code_injective p.0.species s c in
-        ((sp, omega (arith, (from_place s d l p.0 not_before sp).0), long), (p.1, the_first.there), least beyond)
+    module _ (sp : p.0.species ≡ s) where
+      pub first_found : Beyond → d₀ ≤ d → l ≤ p.0.length → FirstFit sizes s d₀ l (Some p.0)
+      first_found beyond h long = ((sp, omega (arith, (from_place s d l p.0 not_before sp).0), long), (p.1, the_first.there), least beyond)
 
-    pub next_up : code p.0.species ≡ code s → p.0.length < l → d < p.0.diameter
-    next_up c short = (from_place s d l p.0 not_before (code_injective p.0.species s c)).1 short
+      -- a key that is too short is thicker, and so is each that fits
+      pub thicker : p.0.length < l → d < p.0.diameter
+      thicker short = (from_place s d l p.0 not_before sp).1 short
 
-    pub beyond_next : Beyond → code p.0.species ≡ code s → (k : Size) (v : ℕ) → lookup size_before sizes k ≡ Some v → KeyFits s d₀ l k → p.0.diameter ≤ k.diameter
-    beyond_next beyond c k v is f = later_diameter p.0 k (code_injective p.0.species s c ∙ sym f.0) (least beyond k v is f)
+      pub beyond_next : Beyond → (k : Size) (v : ℕ) → lookup size_before sizes k ≡ Some v → KeyFits s d₀ l k → p.0.diameter ≤ k.diameter
+      beyond_next beyond k v is f = later_diameter p.0 k (sp ∙ sym f.0) (least beyond k v is f)

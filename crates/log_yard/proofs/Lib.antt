@@ -1,3 +1,4 @@
+pub mod Changes
 pub mod Counts
 pub mod Fits
 pub mod Lists
@@ -7,3 +8,4 @@ pub mod Rows
 pub mod Runs
 pub mod Steps
 pub mod Tallies
+pub mod Walking

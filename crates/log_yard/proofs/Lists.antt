@@ -1,9 +1,9 @@
 -- What a LIST shows, out of the row of the size index.
-use Rattle.std.proofs.Common.{◌≡◌, ℕ, suc, ◌+◌, ◌<◌, ◌≤◌, Bool, true, false, cond, not, eqb, ltb, leb, ◌⊎◌, List, [], ◌∷◌, ◌++◌, length, take, drop, set, is_some, Some, None, Ok, Option, sym, refl, ap, ◌∙◌, subst, inl, inr, ⊎_elim, append_assoc, arith, length-append, take-append-drop, length-take}
-use Rattle.std.proofs.lemmas.Bool.{both_ways, cases_Bool, cond-true, cond-false, and_parts, and_from, eqb-true, eq-eqb, leb-true, le-leb, lt-ltb}
+use Rattle.std.proofs.Common.{◌≡◌, ℕ, ◌+◌, ◌≤◌, min, MatchOption, Bool, true, false, cond, not, eqb, ltb, leb, ◌⊎◌, List, [], ◌∷◌, ◌++◌, length, take, drop, is_some, Some, None, Ok, Option, sym, refl, ap, ◌∙◌, subst, inl, inr, ⊎_elim, append_assoc, arith, length-append, take-append-drop, length-take}
+use Rattle.std.proofs.lemmas.Bool.{both_ways, cases_Bool, and_parts, and_from, eqb-true, eq-eqb, leb-true, le-leb, lt-ltb}
 use Rattle.std.proofs.lemmas.Bool.Decides.{nat_tests}
-use Rattle.ordered.specs.Meaning.{lookup, Ascending, After, first, same}
-use Rattle.ordered.proofs.Lookups.{same_self, less_apart, after_all}
+use Rattle.ordered.specs.Meaning.{lookup, Ascending, After, same}
+use Rattle.ordered.proofs.Lookups.{same_self, after_all}
 use Rattle.ordered.proofs.Rows.{same_is}
 use Rattle.logs.specs.declared.species.Species.{Species}
 use Rattle.logs.specs.declared.keys.Size.{Size}
@@ -12,9 +12,7 @@ use Rattle.logs.specs.Orders.{size_before}
 use Rattle.logs.specs.Codes.{code}
 use Rattle.log_yard.specs.Law.{Among, Later, InOrder}
 use Rattle.log_yard.specs.Pages.{in_range, to_log, runs, drop_to, next_of, start, range}
-use Rattle.ordered.proofs.Walks.{head_of}
-use Rattle.std.proofs.lemmas.List.{take_at, length-take-le, take_more_set, drop-set-lt, drop-drop}
-use Rattle.ordered.specs.Meaning.{above, at_or_above}
+use Rattle.std.proofs.lemmas.List.{take_at, length-take-le, drop-append-le}
 use Rattle.ordered.specs.declared.index.OrderedIndex.{Ghosts}
 use Rattle.logs.specs.declared.keys.Tag.{Tag}
 use Rattle.logs.specs.declared.log.Rest.{Rest}
@@ -26,61 +24,13 @@ use Rattle.log_yard.specs.declared.yard.Yard.{Yard}
 use Rattle.log_yard.specs.Sizes.{size_of}
 use Rattle.logs.specs.Limits.{DiameterOk}
 use Rattle.log_yard.specs.History.{Loaded, History}
-use Rattle.log_yard.specs.Law.{Stands, Between, Listing, Lawful, shown}
+use Rattle.log_yard.specs.Law.{Stands, Between, Listing, Lawful, shown as count_shown}
 use Rattle.log_yard.specs.Pages.{Filled}
 use Rattle.log_yard.specs.Tells.{Tells, at}
 use Rattle.log_yard.proofs.Steps.{key_of_bay, bay_there}
-use Rattle.logs.specs.Lex.{code_injective}
-use Rattle.log_yard.proofs.Rows.{size_order}
-use Rattle.log_yard.proofs.Fits.{lex_not, lex_less, lex_yes, lex_false}
-
--- a row and what follows some of its pairs
-pub data Suffix : List (Size × ℕ) → List (Size × ℕ) → Type 0 where
-  whole : {row : List (Size × ℕ)} → Suffix row row
-  later : {p : Size × ℕ} {row rest : List (Size × ℕ)} → Suffix row rest → Suffix (p ∷ row) rest
-
-pub suffix_tail : {p : Size × ℕ} {row ps : List (Size × ℕ)} → Suffix row (p ∷ ps) → Suffix row ps
-suffix_tail whole = later whole
-suffix_tail (later s) = later (suffix_tail s)
-
-pub drop_suffix : (f : Size → Bool) (row : List (Size × ℕ)) → Suffix row (drop_to f row)
-drop_suffix f [] = whole
-drop_suffix f (p ∷ ps) = elim (f p.0) as (λ t. Suffix (p ∷ ps) (cond t (p ∷ ps) (drop_to f ps))) [ true ↦ whole | false ↦ later (drop_suffix f ps) ]
-
-pub first_head : (f : Size → Bool) (row : List (Size × ℕ)) → first f row ≡ head_of (drop_to f row)
-first_head f [] = refl
-first_head f (p ∷ ps) = elim (f p.0) as (λ t. cond t (Some p) (first f ps) ≡ head_of (cond t (p ∷ ps) (drop_to f ps))) [ true ↦ refl | false ↦ first_head f ps ]
-
-pub head_runs : (s : Species) (e : ℕ) (rest : List (Size × ℕ)) → next_of s e (head_of rest) ≡ head_of (runs s e rest)
-head_runs s e [] = refl
-head_runs s e (p ∷ ps) = elim (in_range s e p.0) as (λ t. cond t (Some (to_log p)) None ≡ head_of (cond t (to_log p ∷ runs s e ps) [])) [ true ↦ refl | false ↦ refl ]
-
-pub asc_suffix : {row rest : List (Size × ℕ)} → Suffix row rest → Ascending size_before row → Ascending size_before rest
-asc_suffix whole asc = asc
-asc_suffix (later s) asc = asc_suffix s asc.1
-
-before_suffix : (k : Size) {p : Size × ℕ} {row ps : List (Size × ℕ)} → Suffix row (p ∷ ps) → After size_before k row → size_before k p.0 ≡ true
-before_suffix k whole after = after.0
-before_suffix k (later s) after = before_suffix k s after.1
-
-not_both : (x y : Size) → size_before x y ≡ true → size_before y x ≡ false
-not_both x y h = ⊎_elim (λ t. absurd (both_ways (size_before x x) (size_order.irreflexive x) (size_order.transitive x y x h t))) (λ t. t) (cases_Bool (size_before y x))
-
-past_head : (k : Size) (ps : List (Size × ℕ)) → After size_before k ps → first (λ q. size_before k q) ps ≡ head_of ps
-past_head k [] after = refl
-past_head k (q ∷ qs) after = cond-true (size_before k q.0) (Some q) (first (λ q. size_before k q) qs) after.0
-
--- the pair after p is the next of the row
-pub past_suffix : {p : Size × ℕ} {row ps : List (Size × ℕ)} → Suffix row (p ∷ ps) → Ascending size_before row → first (λ q. size_before p.0 q) row ≡ head_of ps
-past_suffix {p} {ps = ps} whole asc = cond-false (size_before p.0 p.0) (Some p) (first (λ q. size_before p.0 q) ps) (size_order.irreflexive p.0) ∙ past_head p.0 ps asc.0
-past_suffix {p} (later {p = x} {row = row} s) asc =
-    cond-false (size_before p.0 x.0) (Some x) (first (λ q. size_before p.0 q) row) (not_both x.0 p.0 (before_suffix x.0 s asc.0))
-    ∙ past_suffix s asc.1
-
--- what is in the part is in the row
-pub in_suffix : {p : Size × ℕ} {row ps : List (Size × ℕ)} → Suffix row (p ∷ ps) → Ascending size_before row → lookup size_before row p.0 ≡ Some p.1
-in_suffix {p} {ps = ps} whole asc = cond-true (same size_before p.0 p.0) (Some p.1) (lookup size_before ps p.0) (same_self size_order p.0)
-in_suffix {p} (later {p = x} {row = row} s) asc = cond-false (same size_before x.0 p.0) (Some x.1) (lookup size_before row p.0) (less_apart size_order x.0 p.0 (before_suffix x.0 s asc.0)) ∙ in_suffix s asc.1
+use Rattle.logs.specs.Lex.{code_injective, size_order}
+use Rattle.log_yard.proofs.Fits.{lex_not, lex_less, lex_yes, fits_from, from_place}
+use Rattle.log_yard.proofs.Walking.{behind}
 
 later_runs : (s : Species) (e : ℕ) (p : Size × ℕ) (ps : List (Size × ℕ)) → After size_before p.0 ps → Later p.0.tag (to_log p).rest.body (runs s e ps)
 later_runs s e p [] after = tt
@@ -94,24 +44,16 @@ ordered_runs s e (p ∷ ps) asc = elim (in_range s e p.0) as (λ t. InOrder (con
 abbrev From : Species → ℕ → Size → Type 0
 From s d k = size_before k (start s d) ≡ false
 
-from_start : (s : Species) (d : ℕ) (k : Size) → k.species ≡ s → d ≤ k.diameter → From s d k
-from_start s d k e h =
-    let c : code k.species ≡ code s = ap code e in
-    lex_false (code k.species) (code s) _ (omega (arith, c)) (λ _.
-    lex_false k.diameter d _ h (λ _.
-    lex_false k.length 0 _ (omega arith) (λ _. lex_false' k.tag)))
-  where
-    lex_false' : (n : ℕ) → ltb n 0 ≡ false
-    lex_false' n = grind (arith, nat_tests)
+abbrev dropped : Species → ℕ → List (Size × ℕ) → List (Size × ℕ)
+dropped s d row = drop_to (λ q. not (size_before q (start s d))) row
 
-pub start_diameter : (s : Species) (d e : ℕ) (k : Size) → From s d k → in_range s e k ≡ true → (k.species ≡ s) × (d ≤ k.diameter) × (k.diameter ≤ e)
-start_diameter s d e k f r =
+in_range_is : (s : Species) (e : ℕ) (k : Size) → in_range s e k ≡ true → (k.species ≡ s) × (k.diameter ≤ e)
+in_range_is s e k r =
     let p = and_parts (eqb (code k.species) (code s)) (leb k.diameter e) r in
-    let c = eqb-true (code k.species) (code s) p.0 in (
-      code_injective k.species s c,
-      ⊎_elim (λ lt. absurd (omega (arith, lt, c))) (λ q. ⊎_elim (λ lt. omega (arith, lt)) (λ z. omega (arith, z.0)) (lex_not k.diameter d _ q.1)) (lex_not (code k.species) (code s) _ f),
-      leb-true k.diameter e p.1,
-    )
+    (code_injective k.species s (eqb-true (code k.species) (code s) p.0), leb-true k.diameter e p.1)
+
+is_in_range : (s : Species) (e : ℕ) (k : Size) → k.species ≡ s → k.diameter ≤ e → in_range s e k ≡ true
+is_in_range s e k sp h = and_from _ _ (eq-eqb (code k.species) (code s) (ap code sp)) (le-leb k.diameter e h)
 
 -- between the start and a key in range all is in range
 between_range : (s : Species) (d e : ℕ) (q k : Size) → From s d q → size_before q k ≡ true → k.species ≡ s → k.diameter ≤ e → in_range s e q ≡ true
@@ -127,73 +69,59 @@ from_later : (s : Species) (d : ℕ) (q k : Size) → From s d q → size_before
 from_later s d q k f b = ⊎_elim (λ t. absurd (both_ways (size_before q (start s d)) f (size_order.transitive q k (start s d) b t))) (λ t. t) (cases_Bool (size_before k (start s d)))
 
 found_in : (x k : Size) (u v : ℕ) (w : Option ℕ) → cond (same size_before x k) (Some u) w ≡ Some v → ((x ≡ k) × (u ≡ v)) ⊎ (w ≡ Some v)
-found_in x k u v w e = ⊎_elim (λ t. inl (same_is size_order x k t, inside u v (sym (cond-true (same size_before x k) (Some u) w t) ∙ e))) (λ t. inr (sym (cond-false (same size_before x k) (Some u) w t) ∙ e)) (cases_Bool (same size_before x k))
+found_in x k u v w e = go (same size_before x k) refl e
   where
-    inside : (u v : ℕ) → Some u ≡ Some v → u ≡ v
-    inside u v e = cc
+    go : (c : Bool) → same size_before x k ≡ c → cond c (Some u) w ≡ Some v → ((x ≡ k) × (u ≡ v)) ⊎ (w ≡ Some v)
+    go true ce e = let uv : u ≡ v = cc in inl (same_is size_order x k ce, uv)
+    go false ce e = inr e
 
-module _ (s : Species) (d e : ℕ) (k : Size) (v : ℕ) (sp : k.species ≡ s) (low : d ≤ k.diameter) (high : k.diameter ≤ e) where
-  range_k : in_range s e k ≡ true
-  range_k = and_from _ _ (eq-eqb (code k.species) (code s) (ap code sp)) (le-leb k.diameter e high)
-
-  -- from a pair on that is not before the start, the pair at k is shown
-  among_runs : (p : Size × ℕ) (ps : List (Size × ℕ)) → From s d p.0 → Ascending size_before (p ∷ ps) → lookup size_before (p ∷ ps) k ≡ Some v → Among (to_log (k, v)) (runs s e (p ∷ ps))
-  among_runs p [] f asc is = ⊎_elim
-      (λ z. subst (λ t. Among (to_log (k, v)) (cond t (to_log p ∷ []) [])) (sym (subst (λ y. in_range s e y ≡ true) (sym z.0) range_k)) (inl (the_same z)))
-      (λ z. absurd (empty z)) (found_in p.0 k p.1 v None is)
-    where
-      the_same : (p.0 ≡ k) × (p.1 ≡ v) → to_log (k, v) ≡ to_log p
-      the_same z = λ i. to_log (sym z.0 i, sym z.1 i)
-
-      empty : None ≡ Some v → ⊥
-      empty z = let y : ◌≡◌ {A = ℕ} 0 1 = cc in omega arith
-  among_runs p (q ∷ qs) f asc is = ⊎_elim
-      (λ z. subst (λ t. Among (to_log (k, v)) (cond t (to_log p ∷ runs s e (q ∷ qs)) [])) (sym (subst (λ y. in_range s e y ≡ true) (sym z.0) range_k)) (inl (the_same z)))
-      (λ z. subst (λ t. Among (to_log (k, v)) (cond t (to_log p ∷ runs s e (q ∷ qs)) []))
-      (sym (between_range s d e p.0 k f (after_all size_order p.0 (q ∷ qs) asc.0 k v z) sp high))
-      (inr (among_runs q qs (from_later s d p.0 q.0 f asc.0.0) asc.1 z)))
-      (found_in p.0 k p.1 v (lookup size_before (q ∷ qs) k) is)
-    where
-      the_same : (p.0 ≡ k) × (p.1 ≡ v) → to_log (k, v) ≡ to_log p
-      the_same z = λ i. to_log (sym z.0 i, sym z.1 i)
-
-  pub among_range : (row : List (Size × ℕ)) → Ascending size_before row → lookup size_before row k ≡ Some v → Among (to_log (k, v)) (range row s d e)
-  among_range [] asc is = absurd (empty is)
-    where
-      empty : None ≡ Some v → ⊥
-      empty z = let y : ◌≡◌ {A = ℕ} 0 1 = cc in omega arith
-  among_range (p ∷ ps) asc is = go (size_before p.0 (start s d)) refl (among_range ps asc.1)
-    where
-      go : (t : Bool) → size_before p.0 (start s d) ≡ t → (lookup size_before ps k ≡ Some v → Among (to_log (k, v)) (range ps s d e)) → Among (to_log (k, v)) (runs s e (cond (not t) (p ∷ ps) (drop_to (λ q. not (size_before q (start s d))) ps)))
-      go true te ih = ⊎_elim
-          (λ z. absurd (both_ways (size_before k (start s d)) (from_start s d k sp low) (subst (λ y. size_before y (start s d) ≡ true) z.0 te)))
-          ih (found_in p.0 k p.1 v (lookup size_before ps k) is)
-      go false te ih = among_runs p ps te asc is
-
--- all that is shown is from the start on
-abbrev AllFrom : Species → ℕ → List (Size × ℕ) → Type 0
-AllFrom s d [] = Unit {0}
-AllFrom s d (p ∷ ps) = From s d p.0 × AllFrom s d ps
-
-from_after : (s : Species) (d : ℕ) (k : Size) (ps : List (Size × ℕ)) → From s d k → After size_before k ps → AllFrom s d ps
-from_after s d k [] f after = tt
-from_after s d k (q ∷ qs) f after = (from_later s d k q.0 f after.0, from_after s d k qs f after.1)
-
-from_dropped : (s : Species) (d : ℕ) (row : List (Size × ℕ)) → Ascending size_before row → AllFrom s d (drop_to (λ q. not (size_before q (start s d))) row)
-from_dropped s d [] asc = tt
-from_dropped s d (p ∷ ps) asc = go (size_before p.0 (start s d)) refl (from_dropped s d ps asc.1)
+-- what is dropped is before the start, and all else stays
+dropped_in : (s : Species) (d : ℕ) (row : List (Size × ℕ)) → Ascending size_before row → (k : Size) (v : ℕ) → lookup size_before (dropped s d row) k ≡ Some v → (lookup size_before row k ≡ Some v) × From s d k
+dropped_in s d [] asc k v is = cc
+dropped_in s d (p ∷ ps) asc k v is = go (size_before p.0 (start s d)) refl is (dropped_in s d ps asc.1 k v)
   where
-    go : (t : Bool) → size_before p.0 (start s d) ≡ t → AllFrom s d (drop_to (λ q. not (size_before q (start s d))) ps) → AllFrom s d (cond (not t) (p ∷ ps) (drop_to (λ q. not (size_before q (start s d))) ps))
-    go true te ih = ih
-    go false te ih = (te, from_after s d p.0 ps te asc.0)
+    go : (t : Bool) → size_before p.0 (start s d) ≡ t → lookup size_before (cond (not t) (p ∷ ps) (dropped s d ps)) k ≡ Some v → (lookup size_before (dropped s d ps) k ≡ Some v → (lookup size_before ps k ≡ Some v) × From s d k) → (lookup size_before (p ∷ ps) k ≡ Some v) × From s d k
+    go true te is ih = let q = ih is in (behind size_order p ps asc k v q.0, q.1)
+    go false te is ih = (
+      is,
+      ⊎_elim (λ z. subst (From s d) z.0 te) (λ z. from_later s d p.0 k te (after_all size_order p.0 ps asc.0 k v z)) (found_in p.0 k p.1 v (lookup size_before ps k) is),
+    )
 
-shown_from : (s : Species) (d e : ℕ) (row rest : List (Size × ℕ)) → Suffix row rest → Ascending size_before row → AllFrom s d rest → (x : Log) → Among x (runs s e rest) → (p : Size × ℕ) × (x ≡ to_log p) × (lookup size_before row p.0 ≡ Some p.1) × (in_range s e p.0 ≡ true) × From s d p.0
-shown_from s d e row [] suf asc fr x a = absurd a
-shown_from s d e row (p ∷ ps) suf asc fr x a = go (in_range s e p.0) refl a (shown_from s d e row ps (suffix_tail suf) asc fr.1 x)
+stays_in : (s : Species) (d : ℕ) (row : List (Size × ℕ)) → (k : Size) (v : ℕ) → From s d k → lookup size_before row k ≡ Some v → lookup size_before (dropped s d row) k ≡ Some v
+stays_in s d [] k v f is = is
+stays_in s d (p ∷ ps) k v f is = go (size_before p.0 (start s d)) refl (stays_in s d ps k v f)
   where
-    go : (t : Bool) → in_range s e p.0 ≡ t → Among x (cond t (to_log p ∷ runs s e ps) []) → (Among x (runs s e ps) → (p : Size × ℕ) × (x ≡ to_log p) × (lookup size_before row p.0 ≡ Some p.1) × (in_range s e p.0 ≡ true) × From s d p.0) → (p : Size × ℕ) × (x ≡ to_log p) × (lookup size_before row p.0 ≡ Some p.1) × (in_range s e p.0 ≡ true) × From s d p.0
-    go true te a ih = ⊎_elim (λ i. (p, i, in_suffix suf asc, te, fr.0)) ih a
+    go : (t : Bool) → size_before p.0 (start s d) ≡ t → (lookup size_before ps k ≡ Some v → lookup size_before (dropped s d ps) k ≡ Some v) → lookup size_before (cond (not t) (p ∷ ps) (dropped s d ps)) k ≡ Some v
+    go true te ih = ⊎_elim (λ z. absurd (both_ways (size_before k (start s d)) f (subst (λ y. size_before y (start s d) ≡ true) z.0 te))) ih (found_in p.0 k p.1 v (lookup size_before ps k) is)
+    go false te ih = is
+
+asc_dropped : (s : Species) (d : ℕ) (row : List (Size × ℕ)) → Ascending size_before row → Ascending size_before (dropped s d row)
+asc_dropped s d [] asc = tt
+asc_dropped s d (p ∷ ps) asc = elim (size_before p.0 (start s d)) as (λ t. Ascending size_before (cond (not t) (p ∷ ps) (dropped s d ps))) [ true ↦ asc_dropped s d ps asc.1 | false ↦ asc ]
+
+-- what is shown is in the row
+shown_in : (s : Species) (e : ℕ) (rest : List (Size × ℕ)) → Ascending size_before rest → (x : Log) → Among x (runs s e rest) → (p : Size × ℕ) × (x ≡ to_log p) × (lookup size_before rest p.0 ≡ Some p.1) × (in_range s e p.0 ≡ true)
+shown_in s e [] asc x a = absurd a
+shown_in s e (p ∷ ps) asc x a = go (in_range s e p.0) refl a (shown_in s e ps asc.1 x)
+  where
+    go : (t : Bool) → in_range s e p.0 ≡ t → Among x (cond t (to_log p ∷ runs s e ps) [])
+        → (Among x (runs s e ps) → (q : Size × ℕ) × (x ≡ to_log q) × (lookup size_before ps q.0 ≡ Some q.1) × (in_range s e q.0 ≡ true))
+        → (q : Size × ℕ) × (x ≡ to_log q) × (lookup size_before (p ∷ ps) q.0 ≡ Some q.1) × (in_range s e q.0 ≡ true)
+    go true te a ih = ⊎_elim
+        (λ i. (p, i, ap (λ c. cond c (Some p.1) (lookup size_before ps p.0)) (same_self size_order p.0), te))
+        (λ b. let f = ih b in (f.0, f.1, behind size_order p ps asc f.0.0 f.0.1 f.2, f.3)) a
     go false te a ih = absurd a
+
+-- each pair in range is shown, where nothing before it is out of range
+among_runs : (s : Species) (d e : ℕ) (k : Size) (v : ℕ) → k.species ≡ s → k.diameter ≤ e → (rest : List (Size × ℕ)) → Ascending size_before rest → ((q : Size) (w : ℕ) → lookup size_before rest q ≡ Some w → From s d q) → lookup size_before rest k ≡ Some v → Among (to_log (k, v)) (runs s e rest)
+among_runs s d e k v sp high [] asc from is = cc
+among_runs s d e k v sp high (p ∷ ps) asc from is = ⊎_elim
+    (λ z. subst (λ t. Among (to_log (k, v)) (cond t (to_log p ∷ runs s e ps) [])) (sym (is_in_range s e p.0 (ap (λ (q : Size). q.species) z.0 ∙ sp) (omega (arith, ap (λ (q : Size). q.diameter) z.0, high))))
+    (inl (λ i. to_log (sym z.0 i, sym z.1 i))))
+    (λ z. subst (λ t. Among (to_log (k, v)) (cond t (to_log p ∷ runs s e ps) []))
+    (sym (between_range s d e p.0 k (from p.0 p.1 (ap (λ c. cond c (Some p.1) (lookup size_before ps p.0)) (same_self size_order p.0))) (after_all size_order p.0 ps asc.0 k v z) sp high))
+    (inr (among_runs s d e k v sp high ps asc.1 (λ q w i. from q w (behind size_order p ps asc q w i)) z)))
+    (found_in p.0 k p.1 v (lookup size_before ps k) is)
 
 -- The range is the listing of the law.
 module _ {T S : Type 0} (t : Ghosts T Tag Rest) (s : Ghosts S Size ℕ) (cap : ℕ) (ls : Loaded) (h : History) (y : Yard T S) (told : Tells t s cap ls h y) (asc_s : Ascending size_before (s.row y.sizes)) (sp : Species) (d e : ℕ) where
@@ -201,7 +129,7 @@ module _ {T S : Type 0} (t : Ghosts T Tag Rest) (s : Ghosts S Size ℕ) (cap : �
   each_shown p is =
       let f = key_of_bay (at (t.row y.tags) p.0.tag) p.0 p.1 (sym (told.sound.agree.bays p.0) ∙ is) in
       let b = f.0 in
-      let there = bay_there (t.row y.tags) (s.row y.sizes) p.0.tag b told.sound.agree f.1 in
+      let there = bay_there t s cap ls h y told p.0.tag b f.1 in
       let bay : p.1 ≡ b.bay = same_bay p.1 b.bay (sym is ∙ ap (lookup size_before (s.row y.sizes)) f.2 ∙ there) in
       sym (told.logs p.0.tag) ∙ f.1 ∙ ap (λ z. Some (record { body = z; place = place.Standing })) (body_is p.0 b p.1 f.2 bay)
     where
@@ -214,15 +142,19 @@ module _ {T S : Type 0} (t : Ghosts T Tag Rest) (s : Ghosts S Size ℕ) (cap : �
   pub listing : Listing ls h sp d e (range (s.row y.sizes) sp d e)
   listing =
       let row = s.row y.sizes in
-      let suf = drop_suffix (λ q. not (size_before q (start sp d))) row in
+      let asc = asc_dropped sp d row asc_s in
       record {
-        ordered = ordered_runs sp e (drop_to (λ q. not (size_before q (start sp d))) row) (asc_suffix suf asc_s);
+        ordered = ordered_runs sp e (dropped sp d row) asc;
         each = λ x a.
-            let f = shown_from sp d e row (drop_to (λ q. not (size_before q (start sp d))) row) suf asc_s (from_dropped sp d row asc_s) x a in
-            let g = start_diameter sp d e f.0.0 f.4 f.3 in
+            let f = shown_in sp e (dropped sp d row) asc x a in
+            let g = dropped_in sp d row asc_s f.0.0 f.0.1 f.2 in
+            let r = in_range_is sp e f.0.0 f.3 in
             subst (λ z. Stands ls h z.tag z.rest.body × (z.rest.place ≡ place.Standing) × Between sp d e z.rest.body) (sym f.1)
-            (each_shown f.0 f.2, refl, (g.0, g.1, g.2));
-        every = λ n b is f. among_range sp d e (size_of n b) b.bay f.0 f.1 f.2 row asc_s (bay_there (t.row y.tags) row n b told.sound.agree (told.logs n ∙ is));
+            (each_shown f.0 g.0, refl, (r.0, (from_place sp d 0 f.0.0 g.1 r.0).0, r.1));
+        every = λ n b is f.
+            let k = size_of n b in
+            let there = stays_in sp d row k b.bay (fits_from sp d d 0 k (f.0, f.1, omega arith) f.1) (bay_there t s cap ls h y told n b (told.logs n ∙ is)) in
+            among_runs sp d e k b.bay f.0 f.2 (dropped sp d row) asc (λ q w i. (dropped_in sp d row asc_s q w i).1) there;
       }
 
   pub list_ok : (page page' : List Log) (r : ℕ × Bool) → DiameterOk d × DiameterOk e → d ≤ e → Filled (range (s.row y.sizes) sp d e) page page' r
@@ -236,79 +168,44 @@ module _ {T S : Type 0} (t : Ghosts T Tag Rest) (s : Ghosts S Size ℕ) (cap : �
     record { sound = told.sound; capped = told.capped; logs = told.logs },
   )
 
--- what the loop comes to
-pub fill_done : (xs page₀ page rs : List Log) (n : ℕ) (m : Bool) → xs ≡ take n page ++ rs → drop n page ≡ drop n page₀ → length page ≡ length page₀ → n ≤ 100 → n ≤ length page → (length rs ≡ 0) ⊎ ((100 ≤ n) ⊎ (length page ≤ n)) → m ≡ ltb 0 (length rs) → Filled xs page₀ page (n, m)
-fill_done xs page₀ page rs n m ex ed el h100 hl why em =
-    let long : length xs ≡ n + length rs = ap length ex ∙ length-append (take n page) rs ∙ ap (λ z. z + length rs) (length-take n page ∙ omega arith) in
-    let c : n ≡ shown xs page₀ = ⊎_elim (λ z. omega (arith, z, long, el)) (λ w. ⊎_elim (λ z. omega (arith, z, long, el)) (λ z. omega (arith, z, long, el)) w) why in
+-- the next log of a walk, by the next pair
+module _ (s : Species) (e : ℕ) (o : Option (Size × ℕ)) (rest rest' : List (Size × ℕ)) (step : MatchOption o ((rest ≡ []) × (rest' ≡ [])) (λ p. rest ≡ p ∷ rest')) (next : Option Log) (is : next ≡ next_of s e o) where
+  log_step : MatchOption next (runs s e rest ≡ []) (λ x. runs s e rest ≡ x ∷ runs s e rest')
+  log_step = subst (λ z. MatchOption z (runs s e rest ≡ []) (λ x. runs s e rest ≡ x ∷ runs s e rest')) (sym is) (go o step)
+    where
+      go : (o : Option (Size × ℕ)) → MatchOption o ((rest ≡ []) × (rest' ≡ [])) (λ p. rest ≡ p ∷ rest') → MatchOption (next_of s e o) (runs s e rest ≡ []) (λ x. runs s e rest ≡ x ∷ runs s e rest')
+      go None h = ap (runs s e) h.0
+      go (Some p) h = subst (λ z. MatchOption (next_of s e (Some p)) (runs s e z ≡ []) (λ x. runs s e z ≡ x ∷ runs s e rest')) (sym h)
+          (elim (in_range s e p.0) as (λ t. MatchOption (cond t (Some (to_log p)) None) (cond t (to_log p ∷ runs s e rest') [] ≡ []) (λ x. cond t (to_log p ∷ runs s e rest') [] ≡ x ∷ runs s e rest')) [ true ↦ refl | false ↦ refl ])
+
+  pub no_log : next ≡ None → runs s e rest ≡ []
+  no_log n = subst (λ z. MatchOption z (runs s e rest ≡ []) (λ x. runs s e rest ≡ x ∷ runs s e rest')) n log_step
+
+  pub more_logs : (m : Bool) → m ≡ is_some next → m ≡ ltb 0 (length (runs s e rest))
+  more_logs m em = em ∙ go next log_step
+    where
+      go : (z : Option Log) → MatchOption z (runs s e rest ≡ []) (λ x. runs s e rest ≡ x ∷ runs s e rest') → is_some z ≡ ltb 0 (length (runs s e rest))
+      go None h = ap (λ z. ltb 0 (length z)) (sym h)
+      go (Some x) h = sym (lt-ltb 0 (length (runs s e rest)) (omega (arith, ap length h)))
+
+pub none_more : {rs : List Log} → rs ≡ [] → false ≡ ltb 0 (length rs)
+none_more e = ap (λ z. ltb 0 (length z)) (sym e)
+
+-- what the loop comes to, at most k logs into the page
+pub fill_done : (xs page shown rs : List Log) (n k r : ℕ) (m : Bool) → r ≡ n → k ≡ min (length page) 100 → n ≤ k → length shown ≡ length (take k page) → xs ≡ take n shown ++ rs → drop n shown ≡ drop n (take k page) → (length rs ≡ 0) ⊎ (k ≤ n) → m ≡ ltb 0 (length rs) → Filled xs page (shown ++ drop k page) (r, m)
+fill_done xs page shown rs n k r m er ek hn el ex ed why em =
+    let front : length (take n shown) ≡ n = length-take-le n shown (omega (arith, el, length-take k page)) in
+    let long : length xs ≡ n + length rs = ap length ex ∙ length-append (take n shown) rs ∙ ap (λ z. z + length rs) front in
+    let c : n ≡ count_shown xs page = ⊎_elim (λ z. omega (arith, z, long, ek)) (λ z. omega (arith, z, long, ek)) why in
     record {
-      count = c;
-      more = em ∙ test (length rs) (shown xs page₀) (length xs) (omega (arith, long, c));
-      written = sym (take-append-drop n page) ∙ ap (λ z. take n page ++ z) ed ∙ ap (λ z. z ++ drop n page₀) front ∙ ap (λ z. take z xs ++ drop z page₀) c;
+      count = er ∙ c;
+      more = em ∙ test (length rs) (count_shown xs page) (length xs) (omega (arith, long, c));
+      written =
+          ap (λ z. z ++ drop k page) (sym (take-append-drop n shown) ∙ ap (λ z. z ++ drop n shown) (sym (ap (take n) ex ∙ take_at (take n shown) rs n front)) ∙ ap (λ z. take n xs ++ z) ed)
+          ∙ append_assoc (take n xs) (drop n (take k page)) (drop k page)
+          ∙ ap (λ z. take n xs ++ z) (sym (drop-append-le n (take k page) (drop k page) (omega (arith, length-take k page))) ∙ ap (drop n) (take-append-drop k page))
+          ∙ ap (λ z. take z xs ++ drop z page) c;
     }
   where
     test : (a b c : ℕ) → c ≡ b + a → ltb 0 a ≡ ltb b c
     test a b c e = grind (arith, nat_tests)
-
-    front : take n page ≡ take n xs
-    front = sym (ap (take n) ex ∙ take_at (take n page) rs n (length-take-le n page hl))
-
-head_cases : (s : Species) (e : ℕ) (rest : List (Size × ℕ)) (x : Log) → Some x ≡ head_of (runs s e rest) → (p : Size × ℕ) × (ps : List (Size × ℕ)) × (rest ≡ p ∷ ps) × (x ≡ to_log p) × (runs s e rest ≡ to_log p ∷ runs s e ps)
-head_cases s e [] x h = absurd (empty h)
-  where
-    empty : Some x ≡ None → ⊥
-    empty z = let y : ◌≡◌ {A = ℕ} 0 1 = cc in omega arith
-head_cases s e (p ∷ ps) x h = go (in_range s e p.0) h
-  where
-    empty : Some x ≡ None → ⊥
-    empty z = let y : ◌≡◌ {A = ℕ} 0 1 = cc in omega arith
-
-    inside : (u v : Log) → Some u ≡ Some v → u ≡ v
-    inside u v e = cc
-
-    go : (t : Bool) → Some x ≡ head_of (cond t (to_log p ∷ runs s e ps) []) → (q : Size × ℕ) × (qs : List (Size × ℕ)) × (p ∷ ps ≡ q ∷ qs) × (x ≡ to_log q) × (cond t (to_log p ∷ runs s e ps) [] ≡ to_log q ∷ runs s e qs)
-    go true h = (p, ps, refl, inside x (to_log p) h, refl)
-    go false h = absurd (empty h)
-
--- one log more is written
-pub fill_step : (s : Species) (e : ℕ) (row rest : List (Size × ℕ)) (xs page₀ page : List Log) (n : ℕ) (x : Log) (key : Size) (was next : Option Log) (got : Option (Size × ℕ))
-    → Suffix row rest → Ascending size_before row
-    → was ≡ Some x → was ≡ head_of (runs s e rest)
-    → xs ≡ take n page ++ runs s e rest
-    → drop n page ≡ drop n page₀
-    → n < length page
-    → key ≡ size_of x.tag x.rest.body
-    → next ≡ next_of s e got → got ≡ above size_before row key
-    → (rest' : List (Size × ℕ)) × Suffix row rest' × (next ≡ head_of (runs s e rest')) × (xs ≡ take (n + 1) (set page n x) ++ runs s e rest') × (drop (n + 1) (set page n x) ≡ drop (n + 1) page₀)
-fill_step s e row rest xs page₀ page n x key was next got suf asc wx hx ex ed lt ke ne ge =
-    let c = head_cases s e rest x (sym wx ∙ hx) in
-    let p = c.0 in
-    let ps = c.1 in
-    let suf' : Suffix row (p ∷ ps) = subst (Suffix row) c.2 suf in
-    let kp : key ≡ p.0 = ke ∙ ap (λ (z : Log). size_of z.tag z.rest.body) c.3 in (
-      ps,
-      suffix_tail suf',
-      ne ∙ ap (next_of s e) ge ∙ ap (λ k. next_of s e (above size_before row k)) kp ∙ ap (next_of s e) (past_suffix suf' asc) ∙ head_runs s e ps,
-      ex ∙ ap (λ z. take n page ++ z) (c.4 ∙ ap (λ z. z ∷ runs s e ps) (sym c.3)) ∙ sym (append_assoc (take n page) (x ∷ []) (runs s e ps)) ∙ ap (λ z. z ++ runs s e ps) (sym (take_more_set page n x lt)),
-      drop-set-lt (n + 1) page n x (omega arith) ∙ sym (drop-drop 1 n page) ∙ ap (drop 1) ed ∙ drop-drop 1 n page₀,
-    )
-
--- what is left to show when there is no next log, or as told by whether there is one
-pub left_none : (next : Option Log) (ys : List Log) → next ≡ None → next ≡ head_of ys → length ys ≡ 0
-left_none next [] n h = refl
-left_none next (y ∷ ys) n h = let z : ◌≡◌ {A = ℕ} 0 1 = cc in omega arith
-
-pub left_none_test : (next : Option Log) (ys : List Log) → next ≡ None → next ≡ head_of ys → false ≡ ltb 0 (length ys)
-left_none_test next ys n h = ap (ltb 0) (sym (left_none next ys n h))
-
-pub left_test : (m : Bool) (next : Option Log) (ys : List Log) → m ≡ is_some next → next ≡ head_of ys → m ≡ ltb 0 (length ys)
-left_test m next ys e h = e ∙ ap is_some h ∙ some_head ys
-  where
-    some_head : (ys : List Log) → is_some (head_of ys) ≡ ltb 0 (length ys)
-    some_head [] = refl
-    some_head (y ∷ ys) = sym (lt-ltb 0 (suc (length ys)) (omega arith))
-
-pub fill_start : (s : Species) (d e : ℕ) (row : List (Size × ℕ)) (page : List Log) (next : Option Log) (got : Option (Size × ℕ)) → next ≡ next_of s e got → got ≡ at_or_above size_before row (start s d)
-    → (rest : List (Size × ℕ)) × Suffix row rest × (next ≡ head_of (runs s e rest)) × (range row s d e ≡ take 0 page ++ runs s e rest) × (drop 0 page ≡ drop 0 page)
-fill_start s d e row page next got ne ge =
-    (drop_to (λ q. not (size_before q (start s d))) row, drop_suffix _ row, ne ∙ ap (next_of s e) (ge ∙ first_head _ row) ∙ head_runs s e _, refl, refl)

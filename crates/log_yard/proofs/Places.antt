@@ -6,7 +6,7 @@ use Rattle.logs.specs.declared.log.Place.TheVariants as place
 use Rattle.logs.specs.declared.log.Rest.{Rest}
 use Rattle.logs.specs.declared.log.Body.{Body}
 use Rattle.logs.specs.declared.log.Log.{Log}
-use Rattle.logs.specs.declared.call.Call.TheVariants.{Arrive, Withdraw, Call as Calls, Saw, Back}
+use Rattle.logs.specs.declared.call.Call.TheVariants.{Arrive, Withdraw, Call as Calls, Back}
 use Rattle.log_yard.specs.declared.answer.Answer.TheVariants.{Done, Found}
 use Rattle.log_yard.specs.History.{Loaded, History, Spot, standing, at_saw, gone, log_at, placed, or_else, value_or, body, spot, last_change, last_given, spot_of, body_of, loaded_at}
 use Rattle.log_yard.specs.History.{event}
@@ -40,11 +40,9 @@ placed_body (Some b) at_saw r e = let x : record { body = b; place = place.AtSaw
 placed_body (Some b) gone r e = cc
 
 module _ (ls : Loaded) (h : History) (p : List Log) (n : ℕ) where
+  -- so does SAW: it puts a log where WITHDRAW does
   pub logs_withdraw : (q : ℕ) → log_at ls (event (Withdraw n) (Ok Done) p ∷ h) q ≡ cond (eqb q n) None (log_at ls h q)
   logs_withdraw q = after_spot (eqb q n) gone (body ls h q) (last_change h q) (spot_of (loaded_at ls q)) ∙ ap (λ o. cond (eqb q n) o (log_at ls h q)) (placed_gone (body ls h q))
-
-  pub logs_saw : (q : ℕ) → log_at ls (event (Saw n) (Ok Done) p ∷ h) q ≡ cond (eqb q n) None (log_at ls h q)
-  logs_saw q = after_spot (eqb q n) gone (body ls h q) (last_change h q) (spot_of (loaded_at ls q)) ∙ ap (λ o. cond (eqb q n) o (log_at ls h q)) (placed_gone (body ls h q))
 
   module _ (r : Rest) (was : log_at ls h n ≡ Some r) where
     pub logs_back : (q : ℕ) → log_at ls (event (Back n) (Ok Done) p ∷ h) q ≡ cond (eqb q n) (Some (record { body = r.body; place = place.Standing })) (log_at ls h q)

@@ -1,30 +1,18 @@
 -- What a change does to both rows.
-use Rattle.std.proofs.Common.{◌≡◌, ℕ, Bool, true, false, cond, ◌&&◌, eqb, List, is_some, Some, None, Option, sym, refl, ap, ◌∙◌, ⊎_elim, arith}
+use Rattle.std.proofs.Common.{◌≡◌, ℕ, Bool, true, false, cond, ◌&&◌, eqb, List, is_some, Some, None, Option, sym, refl, ap, ◌∙◌, ⊎_elim}
 use Rattle.std.proofs.lemmas.Bool.{eqb-true, eqb-false, cond-false, cond-true, cases_Bool}
-use Rattle.std.proofs.lemmas.Bool.Decides.{nat_tests}
-use Rattle.ordered.specs.Meaning.{Order, lookup, same, inserted, removed, updated}
+use Rattle.ordered.specs.Meaning.{lookup, same, inserted, removed, updated}
 use Rattle.ordered.proofs.Lookups.{lookup_inserted, lookup_removed, lookup_updated, same_not}
 use Rattle.logs.specs.declared.log.Place.TheVariants as place
 use Rattle.logs.specs.declared.keys.Tag.{Tag}
 use Rattle.logs.specs.declared.keys.Size.{Size}
 use Rattle.logs.specs.declared.log.Rest.{Rest}
 use Rattle.logs.specs.declared.log.Body.{Body}
-use Rattle.logs.specs.Orders.{tag_before, size_before, lex}
+use Rattle.logs.specs.Orders.{tag_before, size_before}
 use Rattle.log_yard.specs.Sizes.{size_of}
-use Rattle.logs.specs.Codes.{code}
 use Rattle.log_yard.specs.Tells.{at, bay_at}
-use Rattle.logs.specs.Lex.{size_transitive, size_total}
-use Rattle.log_yard.proofs.Counts.{tag_order, same_tag}
-
-lex_self : (n : ℕ) (t : Bool) → lex n n t ≡ t
-lex_self n t = grind (arith, nat_tests)
-
-pub size_order : Order size_before
-size_order = record {
-  irreflexive = λ x. lex_self (code x.species) _ ∙ lex_self x.diameter _ ∙ lex_self x.length _ ∙ grind (arith, nat_tests);
-  transitive = size_transitive;
-  total = size_total;
-}
+use Rattle.logs.specs.Lex.{tag_order, size_order}
+use Rattle.log_yard.proofs.Counts.{same_tag}
 
 pub at_inserted : (row : List (Tag × Rest)) (t : ℕ) (r : Rest) (q : ℕ) → at (inserted tag_before row (record { 0 = t }) r) q ≡ cond (eqb q t) (Some r) (at row q)
 at_inserted row t r q = lookup_inserted tag_order row (record { 0 = t }) r (record { 0 = q }) ∙ ap (λ b. cond b (Some r) (at row q)) (same_tag t q)

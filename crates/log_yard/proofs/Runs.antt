@@ -1,6 +1,6 @@
 -- One call more of a run.
-use Rattle.std.proofs.Common.{◌≡◌, ℕ, ◌+◌, ◌<◌, List, [], ◌∷◌, ◌++◌, length, get_or, take, drop, set, Ok, Err, Result, sym, refl, ap, ◌∙◌, subst, arith}
-use Rattle.std.proofs.lemmas.List.{take_more, take_more_set, drop-set-lt, drop-drop}
+use Rattle.std.proofs.Common.{◌≡◌, ℕ, ◌+◌, ◌<◌, ◌≤◌, List, [], ◌∷◌, ◌++◌, length, get_or, take, drop, set, Result, sym, refl, ap, ◌∙◌, subst, arith}
+use Rattle.std.proofs.lemmas.List.{take_all, take_more, take_more_set, drop-set-lt, drop-drop}
 use Rattle.logs.specs.declared.log.Log.{Log}
 use Rattle.ordered.specs.declared.index.OrderedIndex.{Ghosts}
 use Rattle.logs.specs.declared.keys.Tag.{Tag}
@@ -12,7 +12,7 @@ use Rattle.log_yard.specs.declared.refusal.Refusal.{Refusal}
 use Rattle.log_yard.specs.declared.yard.Yard.{Yard}
 use Rattle.log_yard.specs.History.{Loaded, History, Event}
 use Rattle.log_yard.specs.Law.{Lawful}
-use Rattle.log_yard.specs.Tells.{Stays, Tells, Obeys, ObeysAll}
+use Rattle.log_yard.specs.Tells.{Tells, Obeys, ObeysAll}
 use Rattle.log_yard.specs.Law.{LawfulRun, extended, calls_of, answers_of}
 
 calls_push : (es : List Event) (e : Event) → calls_of (es ++ (e ∷ [])) ≡ calls_of es ++ (e.call ∷ [])
@@ -32,9 +32,6 @@ run_push cap ls h p p' [] e r b l = (b ∙ r, l, refl)
 run_push cap ls h p p' (x ∷ es) e r b l = (r.0, r.1, run_push cap ls (x ∷ h) x.after p' es e r.2 b l)
 
 module _ {T S : Type 0} (t : Ghosts T Tag Rest) (s : Ghosts S Size ℕ) where
-  pub obeys_none : (y : Yard T S) (p : List Log) → ObeysAll t s y [] [] p p y
-  obeys_none y p cap ls h told = ([], record { asked = refl; told = refl; lawful = refl }, told)
-
   pub obeys_more : (y y' y'' : Yard T S) (cs : List Call) (rs : List (Result Answer Refusal)) (p p' : List Log) (e : Event) → e.before ≡ p' → ObeysAll t s y cs rs p p' y' → Obeys t s y' e y'' → ObeysAll t s y (cs ++ (e.call ∷ [])) (rs ++ (e.answer ∷ [])) p e.after y''
   obeys_more y y' y'' cs rs p p' e eb all one cap ls h told =
       let a = all cap ls h told in
@@ -57,16 +54,10 @@ module _ {T S : Type 0} (t : Ghosts T Tag Rest) (s : Ghosts S Size ℕ) where
       (subst (λ z. ObeysAll t s y (take i cs ++ (get_or cs i d ∷ [])) z p₀ p' y'') (sym (take_more_set rs i r lr))
       (obeys_more y y' y'' (take i cs) (take i rs) p₀ p (record { call = get_or cs i d; answer = r; before = p; after = p' }) refl all one))
 
-  pub obeys_whole : (y y' : Yard T S) (cs : List Call) (rs : List (Result Answer Refusal)) (p p' : List Log) (i n : ℕ) → i ≡ n → ObeysAll t s y (take i cs) (take i rs) p p' y' → ObeysAll t s y (take n cs) (take n rs) p p' y'
-  obeys_whole y y' cs rs p p' i n e all = subst (λ m. ObeysAll t s y (take m cs) (take m rs) p p' y') e all
+  -- every call is done
+  pub obeys_whole : (y y' : Yard T S) (cs : List Call) (rs : List (Result Answer Refusal)) (p p' : List Log) (i n : ℕ) → length cs ≤ i → i ≡ n → ObeysAll t s y (take i cs) (take i rs) p p' y' → ObeysAll t s y cs (take n rs) p p' y'
+  obeys_whole y y' cs rs p p' i n h e all = subst (λ z. ObeysAll t s y z (take n rs) p p' y') (take_all n cs (omega arith)) (subst (λ m. ObeysAll t s y (take m cs) (take m rs) p p' y') e all)
 
 -- the answers that are not written yet
 pub rest_next : (old rs : List (Result Answer Refusal)) (i : ℕ) (r : Result Answer Refusal) → drop i rs ≡ drop i old → drop (i + 1) (set rs i r) ≡ drop (i + 1) old
 rest_next old rs i r e = drop-set-lt (i + 1) rs i r (omega arith) ∙ sym (drop-drop 1 i rs) ∙ ap (drop 1) e ∙ drop-drop 1 i old
-
-pub rest_whole : (old rs : List (Result Answer Refusal)) (i n : ℕ) → i ≡ n → drop i rs ≡ drop i old → drop n rs ≡ drop n old
-rest_whole old rs i n e d = subst (λ m. drop m rs ≡ drop m old) e d
-
-pub stays_same : {Y : Type 0} (r : Result Answer Refusal) (y : Y) → Stays r y y
-stays_same (Ok a) y = tt
-stays_same (Err e) y = refl

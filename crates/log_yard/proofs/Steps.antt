@@ -1,435 +1,254 @@
--- What a change of one log does to what the yard tells.
-use Rattle.std.proofs.Common.{◌≡◌, ℕ, ◌<◌, ◌≤◌, min, Bool, true, false, cond, ◌&&◌, eqb, ◌⊎◌, List, ◌∷◌, length, is_some, Some, None, Ok, Err, Option, Result, sym, refl, ap, ◌∙◌, subst, inl, inr, ⊎_elim, arith}
-use Rattle.std.proofs.lemmas.Bool.{eqb-true, cond-false, cond-true, true≢false, cases_Bool}
+-- What each call that is answered comes to, under the law.
+use Rattle.std.proofs.Common.{◌≡◌, ℕ, ◌<◌, ◌≤◌, Bool, true, false, cond, ◌&&◌, List, ◌∷◌, length, is_some, Some, None, Ok, Err, Option, Result, sym, refl, ap, ◌∙◌, subst, inl, inr, ⊎_elim, arith}
+use Rattle.std.proofs.lemmas.Bool.{true≢false}
+use Rattle.std.specs.Option.{ok_or}
+use denote.Enum.Bare.{sameb}
 use Rattle.ordered.specs.declared.fault.Fault.{Fault}
-use Rattle.ordered.proofs.Done.{put_done, set_done, take_done}
 use Rattle.ordered.specs.declared.index.OrderedIndex.{Ghosts}
-use Rattle.ordered.specs.Meaning.{lookup, same, Ascending, inserted, updated}
-use Rattle.log_yard.specs.Sizes.{tally}
+use Rattle.ordered.specs.Meaning.{lookup, same, Ascending}
 use Rattle.ordered.specs.Promises.{Puts, Sets, Takes}
-use Rattle.ordered.proofs.Rows.{length_inserted, length_updated, same_is}
-use Rattle.ordered.proofs.Lookups.{length_removed, same_self}
-use Rattle.log_yard.proofs.Tallies.{tally_inserted, tally_removed, tally_updated, tally_length}
-use Rattle.logs.specs.declared.log.Place.{Place}
-use Rattle.logs.specs.declared.log.Place.TheVariants as place
-use Rattle.logs.specs.declared.keys.Tag.{Tag}
+use Rattle.ordered.proofs.Lookups.{same_self}
+use Rattle.ordered.proofs.Rows.{same_is}
+use Rattle.logs.specs.contracts.log.Place.{the_type}
+use Rattle.logs.specs.declared.call.Call.{Call}
+use Rattle.logs.specs.declared.call.Call.TheVariants.{Arrive, Withdraw, Call as Calls, Saw, Back}
 use Rattle.logs.specs.declared.keys.Size.{Size}
-use Rattle.logs.specs.declared.log.Rest.{Rest}
+use Rattle.logs.specs.declared.keys.Tag.{Tag}
 use Rattle.logs.specs.declared.log.Body.{Body}
 use Rattle.logs.specs.declared.log.Log.{Log}
-use Rattle.logs.specs.declared.call.Call.{Call}
-use Rattle.logs.specs.declared.call.Call.TheVariants.{Arrive, Withdraw, Call as Calls, Saw, Back, Find}
-use Rattle.log_yard.specs.declared.answer.Answer.TheVariants.{Done, Found}
-use Rattle.log_yard.specs.declared.yard.Yard.{Yard}
-use Rattle.logs.specs.Orders.{tag_before, size_before}
-use Rattle.log_yard.specs.Sizes.{size_of, stands}
-use Rattle.logs.specs.Limits.{TagOk, BodyOk, DiameterOk, LengthOk}
+use Rattle.logs.specs.declared.log.Place.{Place}
+use Rattle.logs.specs.declared.log.Place.TheVariants as place
+use Rattle.logs.specs.declared.log.Rest.{Rest}
 use Rattle.logs.specs.declared.species.Species.{Species}
-use Rattle.log_yard.specs.Law as law
+use Rattle.logs.specs.Lex.{size_order}
+use Rattle.logs.specs.Limits.{TagOk, BodyOk, DiameterOk, LengthOk}
+use Rattle.logs.specs.Orders.{tag_before, size_before}
+use Rattle.log_yard.specs.declared.answer.Answer.TheVariants.{Done, Found}
+use Rattle.log_yard.specs.declared.answer.Answer.{Answer}
 use Rattle.log_yard.specs.declared.refusal.Refusal.{Refusal}
 use Rattle.log_yard.specs.declared.refusal.Refusal.TheVariants as refusal
-use Rattle.log_yard.specs.Refusals.{refusal_number}
-use Rattle.log_yard.specs.History.{Loaded, History, Event, log_at, present}
-use Rattle.log_yard.specs.Law.{Lawful}
-use Rattle.log_yard.specs.Tells.{at, bay_at, Agree, Tells, Sought, capacity}
-use Rattle.log_yard.specs.History.{event}
+use Rattle.log_yard.specs.declared.yard.Yard.{Yard}
 use Rattle.log_yard.specs.Fitting.{LimitsOf, KeyFits, FirstFit}
-use Rattle.log_yard.proofs.Places.{logs_arrive, logs_withdraw, logs_saw, logs_back, logs_call}
-use Rattle.log_yard.proofs.Counts.{tag_order, present_like}
-use Rattle.log_yard.proofs.Rows.{size_order, at_inserted, at_removed, at_updated, bays_after, sizes_put, sizes_take}
+use Rattle.log_yard.specs.History.{Loaded, History, log_at, present, event}
+use Rattle.log_yard.specs.Law as law
+use Rattle.log_yard.specs.Law.{Lawful}
+use Rattle.log_yard.specs.Refusals.{refusal_number}
+use Rattle.log_yard.specs.Sizes.{size_of, stands}
+use Rattle.log_yard.specs.Tells.{at, bay_at, elsewhere, place_number, Agree, Tells, Sought, SoughtAt, capacity}
+use Rattle.log_yard.proofs.Changes.{standing, sawing, tag_of, tag_put, tag_set, tag_take, size_put, size_take, size_still, down_none, down_saw, still, bays_at, changed}
+use Rattle.log_yard.proofs.Counts.{present_like}
+use Rattle.log_yard.proofs.Places.{logs_arrive, logs_withdraw, logs_back, logs_call}
+use Rattle.log_yard.proofs.Tallies.{tally_length}
 
-pub at_cases : (b : Bool) (new old : Option Rest) (r : Rest) → cond b new old ≡ Some r → ((b ≡ true) × (new ≡ Some r)) ⊎ (old ≡ Some r)
-at_cases true new old r e = inl (refl, e)
-at_cases false new old r e = inr e
+pub rest_is : (r : Rest) (p : Place) → r.place ≡ p → r ≡ record { body = r.body; place = p }
+rest_is r p e = λ i. record { body = r.body; place = e i }
 
-module _ {T S : Type 0} (t : Ghosts T Tag Rest) (s : Ghosts S Size ℕ) where
-  pub present_now : (cap : ℕ) (ls : Loaded) (h : History) (y : Yard T S) → Tells t s cap ls h y → Ascending tag_before (t.row y.tags) → length (t.row y.tags) ≡ present ls h
-  present_now cap ls h y told asc = present_like ls h (t.row y.tags) asc (λ n r e. (told.sound.agree.limits n r e).0.1) told.logs
+some_inside : {X : Type 0} (x y : X) → Some x ≡ Some y → x ≡ y
+some_inside x y e = cc
 
-  -- one log changes
-  pub changed : (cap : ℕ) (ls : Loaded) (h : History) (e : Event) (y y' : Yard T S) (n : ℕ) (new : Option Rest)
-      → Tells t s cap ls h y
-      → t.kept y'.tags → s.kept y'.sizes
-      → t.room y'.tags ≡ t.room y.tags → s.room y'.sizes ≡ s.room y.sizes
-      → ((q : ℕ) → at (t.row y'.tags) q ≡ cond (eqb q n) new (at (t.row y.tags) q))
-      → ((k : Size) → lookup size_before (s.row y'.sizes) k ≡ cond (eqb k.tag n) (bay_at new k) (lookup size_before (s.row y.sizes) k))
-      → length (s.row y'.sizes) ≡ tally stands (t.row y'.tags)
-      → length (t.row y'.tags) ≤ capacity t s y
-      → ((r : Rest) → new ≡ Some r → TagOk n × BodyOk r.body)
-      → ((q : ℕ) → log_at ls (e ∷ h) q ≡ cond (eqb q n) new (log_at ls h q))
-      → Tells t s cap ls (e ∷ h) y'
-  changed cap ls h e y y' n new told kt ks rt rs tags sizes count room limits law =
-      let old = told.sound.agree in
-      let caps : capacity t s y' ≡ capacity t s y = ap (λ m. min m (s.room y'.sizes)) rt ∙ ap (min (t.room y.tags)) rs in
-      record {
-        sound = record {
-          tags_kept = kt;
-          sizes_kept = ks;
-          agree = record {
-            bays = bays_after (t.row y.tags) (t.row y'.tags) (s.row y.sizes) (s.row y'.sizes) n new tags sizes old.bays;
-            count = count;
-            limits = λ q r g. ⊎_elim
-                (λ p. subst (λ m. TagOk m × BodyOk r.body) (sym (eqb-true q n p.0)) (limits r p.1))
-                (λ p. old.limits q r p)
-                (at_cases (eqb q n) new (at (t.row y.tags) q) r (sym (tags q) ∙ g));
-          };
-          room = subst (λ m. length (t.row y'.tags) ≤ m) (sym caps) room;
-        };
-        capped = caps ∙ told.capped;
-        logs = λ q. tags q ∙ ap (cond (eqb q n) new) (told.logs q) ∙ sym (law q);
-      }
-
-  pub arrived : (cap : ℕ) (ls : Loaded) (h : History) (p : List Log) (y y' : Yard T S) (n : ℕ) (b : Body)
-      → Tells t s cap ls h y
-      → t.kept y'.tags → s.kept y'.sizes
-      → t.room y'.tags ≡ t.room y.tags → s.room y'.sizes ≡ s.room y.sizes
-      → at (t.row y.tags) n ≡ None → TagOk n → BodyOk b
-      → length (t.row y.tags) < capacity t s y
-      → t.row y'.tags ≡ inserted tag_before (t.row y.tags) (record { 0 = n }) (record { body = b; place = place.Standing })
-      → s.row y'.sizes ≡ inserted size_before (s.row y.sizes) (size_of n b) b.bay
-      → Tells t s cap ls (event (Arrive n b) (Ok Done) p ∷ h) y'
-  arrived cap ls h p y y' n b told kt ks rt rs none tok bok room tags sizes =
-      let tag : Tag = record { 0 = n } in
-      let r : Rest = record { body = b; place = place.Standing } in
-      let old = told.sound.agree in
-      changed cap ls h _ y y' n (Some r) told kt ks rt rs
-      (λ q. ap (λ row. at row q) tags ∙ at_inserted (t.row y.tags) n r q)
-      (λ k. ap (λ row. lookup size_before row k) sizes ∙ sizes_put None (s.row y.sizes) n b (λ k e. old.bays k ∙ ap (λ o. bay_at o k) (ap (at (t.row y.tags)) e ∙ none)) k)
-      (ap length sizes ∙ length_inserted size_before (s.row y.sizes) (size_of n b) b.bay
-      ∙ omega (arith, old.count, tally_inserted stands tag_before (t.row y.tags) tag r)
-      ∙ sym (ap (tally stands) tags))
-      (omega (arith, ap length tags, length_inserted tag_before (t.row y.tags) tag r))
-      (λ x e. (tok, subst (λ (z : Rest). BodyOk z.body) (inside r x e) bok))
-      (λ q. logs_arrive ls h p n b q)
-    where
-      inside : (x y : Rest) → Some x ≡ Some y → x ≡ y
-      inside x y e = cc
-
-pub arrive_done : (cap m : ℕ) (o : Option Rest) → o ≡ None → (m ≡ cap → ⊥) → law.arrived cap m o (Ok Done)
-arrive_done cap m None e ne = (λ q. absurd (ne q), λ _. refl)
-arrive_done cap m (Some x) e ne = absurd (some_none x e)
-  where
-    some_none : (x : Rest) → Some x ≡ None → ⊥
-    some_none x e = let z : ◌≡◌ {A = ℕ} 0 1 = cc in omega arith
-
-pub arrive_full : (cap m : ℕ) (o : Option Rest) → o ≡ None → m ≡ cap → law.arrived cap m o (Err refusal.Full)
-arrive_full cap m None e eq = (λ _. refl, λ ne. absurd (ne eq))
-arrive_full cap m (Some x) e eq = cc
+-- what an `ok_or` gives where there is nothing
+pub ok_or_none : {X E : Type 0} (o : Option X) (d e : E) → o ≡ None → ◌≡◌ {A = Result X E} (Err e) (ok_or o d) → e ≡ d
+ok_or_none None d e n h = cc
+ok_or_none (Some x) d e n h = cc
 
 pub none_of : {X : Type 0} (o : Option X) → is_some o ≡ false → o ≡ None
 none_of None e = refl
 none_of (Some x) e = absurd (true≢false e)
 
--- what a get that is tested says
-pub lacks_of : (row : List (Tag × Rest)) (n : ℕ) (o : Option Rest) (f : Bool) → o ≡ at row n → f ≡ is_some o → f ≡ false → is_some (at row n) ≡ false
-lacks_of row n o f e g h = sym (ap is_some e) ∙ sym g ∙ h
+-- a log that is not at the place
+pub apart : (x p : Place) → false ≡ sameb the_type x p → x ≡ elsewhere p
+apart place.Standing place.Standing e = cc
+apart place.Standing place.AtSaw e = refl
+apart place.AtSaw place.Standing e = refl
+apart place.AtSaw place.AtSaw e = cc
 
--- a full yard, and what the two puts of ARRIVE come to
-module _ {T S : Type 0} (t : Ghosts T Tag Rest) (s : Ghosts S Size ℕ) (cap : ℕ) (ls : Loaded) (h : History) (y y' : Yard T S) (told : Tells t s cap ls h y) where
-  pub arrive_full_ok : (p : List Log) (n : ℕ) (b : Body) → Ascending tag_before (t.row y.tags) → is_some (at (t.row y.tags) n) ≡ false → TagOk n → BodyOk b → capacity t s y ≤ length (t.row y.tags)
-      → Lawful cap ls h (event (Arrive n b) (Err refusal.Full) p) × Tells t s cap ls (event (Arrive n b) (Err refusal.Full) p ∷ h) y
-  arrive_full_ok p n b asc lacks tok bok over =
-      let none : at (t.row y.tags) n ≡ None = none_of (at (t.row y.tags) n) lacks in
-      let m = present_now t s cap ls h y told asc in
-      let full : present ls h ≡ cap = omega (arith, m, told.capped, told.sound.room, over) in (
-        record { answered = (λ _. arrive_full cap (present ls h) (log_at ls h n) (sym (told.logs n) ∙ none) full, λ bad. absurd (bad (tok, bok))); page = refl },
-        record { sound = told.sound; capped = told.capped; logs = told.logs },
-      )
+pub not_there : (row : List (Tag × Rest)) (n : ℕ) (r : Rest) (p : Place) (e : Refusal) → Sought row n (Ok r) → false ≡ sameb the_type r.place p → refusal_number e ≡ place_number r.place → SoughtAt row n p (Err e)
+not_there row n r p e sought ne number =
+    let q = apart r.place p ne in
+    inr (number ∙ ap place_number q, sought.0, (r.body, sought.1 ∙ ap Some (rest_is r (elsewhere p) q)))
 
-  pub arrive_ok : {X : Type 0} (p : List Log) (n : ℕ) (b : Body) (k : Size) (r r' : Result X Fault) → k ≡ size_of n b
-      → Ascending tag_before (t.row y.tags)
-      → t.kept y'.tags → s.kept y'.sizes
-      → t.room y'.tags ≡ t.room y.tags → s.room y'.sizes ≡ s.room y.sizes
-      → is_some (at (t.row y.tags) n) ≡ false → TagOk n → BodyOk b
-      → length (t.row y.tags) < capacity t s y
-      → Puts t.row t.room t.kept tag_before y.tags (record { 0 = n }) (record { body = b; place = place.Standing }) r y'.tags
-      → Puts s.row s.room s.kept size_before y.sizes k b.bay r' y'.sizes
-      → Lawful cap ls h (event (Arrive n b) (Ok Done) p) × Tells t s cap ls (event (Arrive n b) (Ok Done) p ∷ h) y'
-  arrive_ok p n b k r r' ke asc kt ks rt rs lacks tok bok room put put' =
-      let tags = t.row y.tags in
-      let sizes = s.row y.sizes in
-      let none : at tags n ≡ None = none_of (at tags n) lacks in
-      let m = present_now t s cap ls h y told asc in
-      let few : length tags < t.room y.tags = omega (arith, room) in
-      let fewer : length sizes < s.room y.sizes = omega (arith, room, told.sound.agree.count, tally_length stands tags) in
-      let absent : lookup size_before sizes (size_of n b) ≡ None = told.sound.agree.bays (size_of n b) ∙ ap (λ o. bay_at o (size_of n b)) none in (
-        record {
-          answered = (λ _. arrive_done cap (present ls h) (log_at ls h n) (sym (told.logs n) ∙ none) (λ q. omega (arith, q, m, told.capped, room)), λ bad. absurd (bad (tok, bok)));
-          page = refl;
-        },
-        arrived t s cap ls h p y y' n b told kt ks rt rs none tok bok room
-            (put_done t.row t.room t.kept tag_before y.tags y'.tags (record { 0 = n }) r told.sound.tags_kept (record { body = b; place = place.Standing }) put none few)
-            (put_done s.row s.room s.kept size_before y.sizes y'.sizes (size_of n b) r' told.sound.sizes_kept b.bay (subst (λ q. Puts s.row s.room s.kept size_before y.sizes q b.bay r' y'.sizes) ke put') absent fewer),
-      )
+-- a tag that is outside the limits or absent, and a log that is elsewhere
+module _ (row : List (Tag × Rest)) (n : ℕ) (e : Refusal) (o : Option Rest) (F : Option Rest → Type 0) (is : at row n ≡ o) (absent : refusal_number e ≡ 22 → F None) where
+  unsought : Sought row n (Err e) → law.unless 14 (TagOk n) (Err e) (F o)
+  unsought (inl a) = (λ ok. absurd (a.1 ok), λ _. a.0)
+  unsought (inr a) = (λ _. subst F (sym a.2 ∙ is) (absent a.0), λ bad. absurd (bad a.1))
 
--- a standing log is in the size index under its key
-pub bay_there : (tags : List (Tag × Rest)) (sizes : List (Size × ℕ)) (n : ℕ) (b : Body) → Agree tags sizes → at tags n ≡ Some (record { body = b; place = place.Standing }) → lookup size_before sizes (size_of n b) ≡ Some b.bay
-bay_there tags sizes n b agree is = agree.bays (size_of n b) ∙ ap (λ o. bay_at o (size_of n b)) is ∙ ap (λ c. cond c (Some b.bay) None) (same_self size_order (size_of n b))
+  unsought_at : (p : Place) → ((b : Body) → refusal_number e ≡ place_number (elsewhere p) → F (Some (record { body = b; place = elsewhere p }))) → SoughtAt row n p (Err e) → law.unless 14 (TagOk n) (Err e) (F o)
+  unsought_at p there (inl a) = unsought a
+  unsought_at p there (inr a) = (λ _. subst F (sym a.2.1 ∙ is) (there a.2.0 a.0), λ bad. absurd (bad a.1))
 
--- nothing stands under the tag of a log at the saw
-pub at_saw_none : (tags : List (Tag × Rest)) (sizes : List (Size × ℕ)) (n : ℕ) (b : Body) → Agree tags sizes → at tags n ≡ Some (record { body = b; place = place.AtSaw }) → (k : Size) → k.tag ≡ n → lookup size_before sizes k ≡ None
-at_saw_none tags sizes n b agree is k e = agree.bays k ∙ ap (λ o. bay_at o k) (ap (at tags) e ∙ is)
+arrive_done : (cap m : ℕ) (o : Option Rest) → o ≡ None → (m ≡ cap → ⊥) → law.arrived cap m o (Ok Done)
+arrive_done cap m o e ne = subst (λ z. law.arrived cap m z (Ok Done)) (sym e) (λ q. absurd (ne q), λ _. refl)
 
-none_some : (x : Rest) → None ≡ Some x → ⊥
-none_some x e = let z : ◌≡◌ {A = ℕ} 0 1 = cc in omega arith
-
-some_inside : (x y : Rest) → Some x ≡ Some y → x ≡ y
-some_inside x y e = cc
-
-module _ {T S : Type 0} (t : Ghosts T Tag Rest) (s : Ghosts S Size ℕ) (cap : ℕ) (ls : Loaded) (h : History) (y y' : Yard T S) (told : Tells t s cap ls h y)
-    (asc_t : Ascending tag_before (t.row y.tags))
-    (kt : t.kept y'.tags) (ks : s.kept y'.sizes) (rt : t.room y'.tags ≡ t.room y.tags) (rs : s.room y'.sizes ≡ s.room y.sizes) (n : ℕ) (b : Body) where
-  pub leaves : {X : Type 0} (e : Event) (r r' : Result X Fault)
-      → Ascending size_before (s.row y.sizes)
-      → at (t.row y.tags) n ≡ Some (record { body = b; place = place.Standing })
-      → Takes t.row t.room t.kept tag_before y.tags (record { 0 = n }) r y'.tags
-      → Takes s.row s.room s.kept size_before y.sizes (size_of n b) r' y'.sizes
-      → ((q : ℕ) → log_at ls (e ∷ h) q ≡ cond (eqb q n) None (log_at ls h q))
-      → Tells t s cap ls (e ∷ h) y'
-  leaves e r r' asc_s is take take' law =
-      let tags = t.row y.tags in
-      let sizes = s.row y.sizes in
-      let tag : Tag = record { 0 = n } in
-      let rest : Rest = record { body = b; place = place.Standing } in
-      let old = told.sound.agree in
-      let asc = asc_t in
-      let there = bay_there tags sizes n b old is in
-      let tags' = take_done t.row t.room t.kept tag_before y.tags y'.tags tag r told.sound.tags_kept rest take is in
-      let sizes' = take_done s.row s.room s.kept size_before y.sizes y'.sizes (size_of n b) r' told.sound.sizes_kept b.bay take' there in
-      let shorter = length_removed tag_order tag rest tags asc is in
-      changed t s cap ls h e y y' n None told kt ks rt rs
-      (λ q. ap (λ row. at row q) tags' ∙ at_removed tags n q)
-      (λ k. ap (λ row. lookup size_before row k) sizes' ∙ sizes_take sizes n b (λ k e. old.bays k ∙ ap (λ o. bay_at o k) (ap (at tags) e ∙ is)) k)
-      (omega (arith, ap length sizes', ap (tally stands) tags', length_removed size_order (size_of n b) b.bay sizes asc_s there, tally_removed tag_order stands tag rest tags asc is, old.count))
-      (omega (arith, ap length tags', shorter, told.sound.room))
-      (λ x f. absurd (none_some x f)) law
-
-  pub sawn : {X : Type 0} (e : Event) (r : Result X Fault)
-      → s.row y'.sizes ≡ s.row y.sizes
-      → at (t.row y.tags) n ≡ Some (record { body = b; place = place.AtSaw })
-      → Takes t.row t.room t.kept tag_before y.tags (record { 0 = n }) r y'.tags
-      → ((q : ℕ) → log_at ls (e ∷ h) q ≡ cond (eqb q n) None (log_at ls h q))
-      → Tells t s cap ls (e ∷ h) y'
-  sawn e r sizes' is take law =
-      let tags = t.row y.tags in
-      let sizes = s.row y.sizes in
-      let tag : Tag = record { 0 = n } in
-      let rest : Rest = record { body = b; place = place.AtSaw } in
-      let old = told.sound.agree in
-      let asc = asc_t in
-      let tags' = take_done t.row t.room t.kept tag_before y.tags y'.tags tag r told.sound.tags_kept rest take is in
-      changed t s cap ls h e y y' n None told kt ks rt rs
-      (λ q. ap (λ row. at row q) tags' ∙ at_removed tags n q)
-      (λ k. ap (λ row. lookup size_before row k) sizes' ∙ ⊎_elim
-      (λ q. at_saw_none tags sizes n b old is k (eqb-true k.tag n q) ∙ sym (cond-true (eqb k.tag n) None (lookup size_before sizes k) q))
-      (λ q. sym (cond-false (eqb k.tag n) None (lookup size_before sizes k) q))
-      (cases_Bool (eqb k.tag n)))
-      (omega (arith, ap length sizes', ap (tally stands) tags', tally_removed tag_order stands tag rest tags asc is, old.count))
-      (omega (arith, ap length tags', length_removed tag_order tag rest tags asc is, told.sound.room))
-      (λ x f. absurd (none_some x f)) law
-
-  pub backed : {X : Type 0} (e : Event) (r r' : Result X Fault)
-      → at (t.row y.tags) n ≡ Some (record { body = b; place = place.AtSaw })
-      → Sets t.row t.room t.kept tag_before y.tags (record { 0 = n }) (record { body = b; place = place.Standing }) r y'.tags
-      → Puts s.row s.room s.kept size_before y.sizes (size_of n b) b.bay r' y'.sizes
-      → ((q : ℕ) → log_at ls (e ∷ h) q ≡ cond (eqb q n) (Some (record { body = b; place = place.Standing })) (log_at ls h q))
-      → Tells t s cap ls (e ∷ h) y'
-  backed e r r' is set put law =
-      let tags = t.row y.tags in
-      let sizes = s.row y.sizes in
-      let tag : Tag = record { 0 = n } in
-      let was : Rest = record { body = b; place = place.AtSaw } in
-      let rest : Rest = record { body = b; place = place.Standing } in
-      let old = told.sound.agree in
-      let asc = asc_t in
-      let tags' = set_done t.row t.room t.kept tag_before y.tags y'.tags tag r told.sound.tags_kept was rest set is in
-      let more = tally_updated tag_order stands tag was rest tags asc is in
-      let long = length_updated tag_before tags tag rest in
-      let room : length sizes < s.room y.sizes = omega (arith, more, long, tally_length stands (updated tag_before tags tag rest), old.count, told.sound.room) in
-      let none = at_saw_none tags sizes n b old is in
-      let sizes' = put_done s.row s.room s.kept size_before y.sizes y'.sizes (size_of n b) r' told.sound.sizes_kept b.bay put (none (size_of n b) refl) room in
-      let limits = old.limits n was is in
-      changed t s cap ls h e y y' n (Some rest) told kt ks rt rs
-      (λ q. ap (λ row. at row q) tags' ∙ at_updated tags n rest q (ap is_some is))
-      (λ k. ap (λ row. lookup size_before row k) sizes' ∙ sizes_put None sizes n b none k)
-      (omega (arith, ap length sizes', ap (tally stands) tags', more, old.count, length_inserted size_before sizes (size_of n b) b.bay))
-      (omega (arith, ap length tags', long, told.sound.room))
-      (λ x f. (limits.0, subst (λ (z : Rest). BodyOk z.body) (some_inside rest x f) limits.1)) law
-
-  pub called : {X : Type 0} (e : Event) (r r' : Result X Fault)
-      → Ascending size_before (s.row y.sizes)
-      → at (t.row y.tags) n ≡ Some (record { body = b; place = place.Standing })
-      → Sets t.row t.room t.kept tag_before y.tags (record { 0 = n }) (record { body = b; place = place.AtSaw }) r y'.tags
-      → Takes s.row s.room s.kept size_before y.sizes (size_of n b) r' y'.sizes
-      → ((q : ℕ) → log_at ls (e ∷ h) q ≡ cond (eqb q n) (Some (record { body = b; place = place.AtSaw })) (log_at ls h q))
-      → Tells t s cap ls (e ∷ h) y'
-  called e r r' asc_s is set take law =
-      let tags = t.row y.tags in
-      let sizes = s.row y.sizes in
-      let tag : Tag = record { 0 = n } in
-      let was : Rest = record { body = b; place = place.Standing } in
-      let rest : Rest = record { body = b; place = place.AtSaw } in
-      let old = told.sound.agree in
-      let asc = asc_t in
-      let tags' = set_done t.row t.room t.kept tag_before y.tags y'.tags tag r told.sound.tags_kept was rest set is in
-      let less = tally_updated tag_order stands tag was rest tags asc is in
-      let long = length_updated tag_before tags tag rest in
-      let there = bay_there tags sizes n b old is in
-      let sizes' = take_done s.row s.room s.kept size_before y.sizes y'.sizes (size_of n b) r' told.sound.sizes_kept b.bay take there in
-      let limits = old.limits n was is in
-      changed t s cap ls h e y y' n (Some rest) told kt ks rt rs
-      (λ q. ap (λ row. at row q) tags' ∙ at_updated tags n rest q (ap is_some is))
-      (λ k. ap (λ row. lookup size_before row k) sizes' ∙ sizes_take sizes n b (λ k e. old.bays k ∙ ap (λ o. bay_at o k) (ap (at tags) e ∙ is)) k)
-      (omega (arith, ap length sizes', ap (tally stands) tags', less, old.count, length_removed size_order (size_of n b) b.bay sizes asc_s there))
-      (omega (arith, ap length tags', long, told.sound.room))
-      (λ x f. (limits.0, subst (λ (z : Rest). BodyOk z.body) (some_inside rest x f) limits.1)) law
-
-pub rest_is : (r : Rest) (p : Place) → r.place ≡ p → r ≡ record { body = r.body; place = p }
-rest_is r p e = λ i. record { body = r.body; place = e i }
-
--- a tag that is outside the limits or absent
-pub unsought : (row : List (Tag × Rest)) (n : ℕ) (e : Refusal) (o : Option Rest) (F : Option Rest → Type 0) → Sought row n (Err e) → at row n ≡ o → (refusal_number e ≡ 22 → F None) → law.unless 14 (TagOk n) (Err e) (F o)
-unsought row n e o F (inl a) is f = (λ ok. absurd (a.1 ok), λ _. a.0)
-unsought row n e o F (inr a) is f = (λ _. subst F (sym a.2 ∙ is) (f a.0), λ bad. absurd (bad a.1))
-
-module _ {T S : Type 0} (t : Ghosts T Tag Rest) (s : Ghosts S Size ℕ) (cap : ℕ) (ls : Loaded) (h : History) (y : Yard T S) (told : Tells t s cap ls h y) (p : List Log) (n : ℕ) (e : Refusal) (sought : Sought (t.row y.tags) n (Err e)) where
-  abbrev Told : Call → Type 0
-  Told c = Lawful cap ls h (event c (Err e) p) × Tells t s cap ls (event c (Err e) p ∷ h) y
-
-  told_on : (c : Call) → Tells t s cap ls (event c (Err e) p ∷ h) y
-  told_on c = record { sound = told.sound; capped = told.capped; logs = told.logs }
-
-  pub find_no : Told (Find n)
-  find_no = (record { answered = unsought (t.row y.tags) n e (log_at ls h n) (λ o. law.found n o (Err e)) sought (told.logs n) (λ z. z); page = refl }, told_on (Find n))
-
-  pub withdraw_no : Told (Withdraw n)
-  withdraw_no = (record { answered = unsought (t.row y.tags) n e (log_at ls h n) (λ o. law.withdrawn o (Err e)) sought (told.logs n) (λ z. z); page = refl }, told_on (Withdraw n))
-
-  pub saw_no : Told (Saw n)
-  saw_no = (record { answered = unsought (t.row y.tags) n e (log_at ls h n) (λ o. law.at_saw_only o (Err e)) sought (told.logs n) (λ z. z); page = refl }, told_on (Saw n))
-
-  pub back_no : Told (Back n)
-  back_no = (record { answered = unsought (t.row y.tags) n e (log_at ls h n) (λ o. law.at_saw_only o (Err e)) sought (told.logs n) (λ z. z); page = refl }, told_on (Back n))
-
--- FIND gives the log that is there
-pub find_ok : {T S : Type 0} (t : Ghosts T Tag Rest) (s : Ghosts S Size ℕ) (cap : ℕ) (ls : Loaded) (h : History) (y : Yard T S) → Tells t s cap ls h y → (p : List Log) (n : ℕ) (r : Rest) → Sought (t.row y.tags) n (Ok r)
-    → Lawful cap ls h (event (Find n) (Ok (Found (record { tag = n; rest = r }))) p) × Tells t s cap ls (event (Find n) (Ok (Found (record { tag = n; rest = r }))) p ∷ h) y
-find_ok t s cap ls h y told p n r sought = (
-  record { answered = (λ _. subst (λ o. law.found n o (Ok (Found (record { tag = n; rest = r })))) (sym sought.1 ∙ told.logs n) refl, λ bad. absurd (bad sought.0)); page = refl },
-  record { sound = told.sound; capped = told.capped; logs = told.logs },
-)
-
-withdraw_done : (o : Option Rest) (b : Body) → o ≡ Some (record { body = b; place = place.Standing }) → law.withdrawn o (Ok Done)
-withdraw_done o b e = subst (λ z. law.withdrawn z (Ok Done)) (sym e) refl
-
-at_saw_done : (o : Option Rest) (b : Body) → o ≡ Some (record { body = b; place = place.AtSaw }) → law.at_saw_only o (Ok Done)
-at_saw_done o b e = subst (λ z. law.at_saw_only z (Ok Done)) (sym e) refl
-
-module _ {T S : Type 0} (t : Ghosts T Tag Rest) (s : Ghosts S Size ℕ) (cap : ℕ) (ls : Loaded) (h : History) (y y' : Yard T S) (told : Tells t s cap ls h y)
-    (asc_t : Ascending tag_before (t.row y.tags))
-    (kt : t.kept y'.tags) (ks : s.kept y'.sizes) (rt : t.room y'.tags ≡ t.room y.tags) (rs : s.room y'.sizes ≡ s.room y.sizes) (p : List Log) (n : ℕ) (rest : Rest) (sought : Sought (t.row y.tags) n (Ok rest)) where
-  pub withdraw_ok : {X : Type 0} (k : Size) (r r' : Result X Fault) → Ascending size_before (s.row y.sizes) → rest.place ≡ place.Standing → k ≡ size_of n rest.body
-      → Takes t.row t.room t.kept tag_before y.tags (record { 0 = n }) r y'.tags
-      → Takes s.row s.room s.kept size_before y.sizes k r' y'.sizes
-      → Lawful cap ls h (event (Withdraw n) (Ok Done) p) × Tells t s cap ls (event (Withdraw n) (Ok Done) p ∷ h) y'
-  withdraw_ok k r r' asc_s pl ke take take' =
-      let b = rest.body in
-      let is' = sought.1 ∙ ap Some (rest_is rest place.Standing pl) in (
-        record { answered = (λ _. withdraw_done (log_at ls h n) b (sym (told.logs n) ∙ is'), λ bad. absurd (bad sought.0)); page = refl },
-        leaves t s cap ls h y y' told asc_t kt ks rt rs n b _ r r' asc_s is' take (subst (λ q. Takes s.row s.room s.kept size_before y.sizes q r' y'.sizes) ke take') (logs_withdraw ls h p n),
-      )
-
-  pub saw_ok : {X : Type 0} (r : Result X Fault) → rest.place ≡ place.AtSaw
-      → s.row y'.sizes ≡ s.row y.sizes
-      → Takes t.row t.room t.kept tag_before y.tags (record { 0 = n }) r y'.tags
-      → Lawful cap ls h (event (Saw n) (Ok Done) p) × Tells t s cap ls (event (Saw n) (Ok Done) p ∷ h) y'
-  saw_ok r pl sizes' take =
-      let b = rest.body in
-      let is' = sought.1 ∙ ap Some (rest_is rest place.AtSaw pl) in (
-        record { answered = (λ _. at_saw_done (log_at ls h n) b (sym (told.logs n) ∙ is'), λ bad. absurd (bad sought.0)); page = refl },
-        sawn t s cap ls h y y' told asc_t kt ks rt rs n b _ r sizes' is' take (logs_saw ls h p n),
-      )
-
-  pub back_ok : {X : Type 0} (k : Size) (r r' : Result X Fault) → rest.place ≡ place.AtSaw → k ≡ size_of n rest.body
-      → Sets t.row t.room t.kept tag_before y.tags (record { 0 = n }) (record { body = rest.body; place = place.Standing }) r y'.tags
-      → Puts s.row s.room s.kept size_before y.sizes k rest.body.bay r' y'.sizes
-      → Lawful cap ls h (event (Back n) (Ok Done) p) × Tells t s cap ls (event (Back n) (Ok Done) p ∷ h) y'
-  back_ok k r r' pl ke set put =
-      let b = rest.body in
-      let is' = sought.1 ∙ ap Some (rest_is rest place.AtSaw pl) in (
-        record { answered = (λ _. at_saw_done (log_at ls h n) b (sym (told.logs n) ∙ is'), λ bad. absurd (bad sought.0)); page = refl },
-        backed t s cap ls h y y' told asc_t kt ks rt rs n b _ r r' is' set (subst (λ q. Puts s.row s.room s.kept size_before y.sizes q b.bay r' y'.sizes) ke put) (logs_back ls h p n (record { body = b; place = place.AtSaw }) (sym (told.logs n) ∙ is')),
-      )
+arrive_full : (cap m : ℕ) (o : Option Rest) → o ≡ None → m ≡ cap → law.arrived cap m o (Err refusal.Full)
+arrive_full cap m o e eq = subst (λ z. law.arrived cap m z (Err refusal.Full)) (sym e) (λ _. refl, λ ne. absurd (ne eq))
 
 -- a bay in the size index is that of a standing log
-pub key_of_bay : (o : Option Rest) (k : Size) (v : ℕ) → bay_at o k ≡ Some v → (b : Body) × (o ≡ Some (record { body = b; place = place.Standing })) × (k ≡ size_of k.tag b)
-key_of_bay None k v e = absurd (no_bay v e)
-  where
-    no_bay : (v : ℕ) → None ≡ Some v → ⊥
-    no_bay v e = let z : ◌≡◌ {A = ℕ} 0 1 = cc in omega arith
+pub key_of_bay : (o : Option Rest) (k : Size) (v : ℕ) → bay_at o k ≡ Some v → (b : Body) × (o ≡ Some (standing b)) × (k ≡ size_of k.tag b)
+key_of_bay None k v e = cc
 key_of_bay (Some r) k v e = go r.place refl (same size_before (size_of k.tag r.body) k) refl e
   where
-    no_bay : (v : ℕ) → None ≡ Some v → ⊥
-    no_bay v e = let z : ◌≡◌ {A = ℕ} 0 1 = cc in omega arith
-
-    go : (p : Place) → r.place ≡ p → (c : Bool) → same size_before (size_of k.tag r.body) k ≡ c → cond (stands (record { body = r.body; place = p }) && c) (Some r.body.bay) None ≡ Some v → (b : Body) × (Some r ≡ Some (record { body = b; place = place.Standing })) × (k ≡ size_of k.tag b)
+    go : (p : Place) → r.place ≡ p → (c : Bool) → same size_before (size_of k.tag r.body) k ≡ c → cond (stands (record { body = r.body; place = p }) && c) (Some r.body.bay) None ≡ Some v → (b : Body) × (Some r ≡ Some (standing b)) × (k ≡ size_of k.tag b)
     go place.Standing pe true ce e = (r.body, ap Some (rest_is r place.Standing pe), sym (same_is size_order (size_of k.tag r.body) k ce))
-    go place.Standing pe false ce e = absurd (no_bay v e)
-    go place.AtSaw pe true ce e = absurd (no_bay v e)
-    go place.AtSaw pe false ce e = absurd (no_bay v e)
+    go place.Standing pe false ce e = cc
+    go place.AtSaw pe true ce e = cc
+    go place.AtSaw pe false ce e = cc
 
-pub limits_of : (tags : List (Tag × Rest)) (sizes : List (Size × ℕ)) → Agree tags sizes → LimitsOf sizes
+limits_of : (tags : List (Tag × Rest)) (sizes : List (Size × ℕ)) → Agree tags sizes → LimitsOf sizes
 limits_of tags sizes agree k v is =
     let f = key_of_bay (at tags k.tag) k v (sym (agree.bays k) ∙ is) in
-    let l = agree.limits k.tag (record { body = f.0; place = place.Standing }) f.1 in
+    let l = agree.limits k.tag (standing f.0) f.1 in
     omega (arith, l.1.0, ap (λ (z : Size). z.diameter) f.2)
 
-module _ {T S : Type 0} (t : Ghosts T Tag Rest) (s : Ghosts S Size ℕ) (cap : ℕ) (ls : Loaded) (h : History) (y : Yard T S) (told : Tells t s cap ls h y)
-    (sp : Species) (d l : ℕ) (p : List Log) where
-  -- a standing log that fits has a key that fits
-  standing_key : (n : ℕ) (b : Body) → law.Stands ls h n b → lookup size_before (s.row y.sizes) (size_of n b) ≡ Some b.bay
-  standing_key n b is = bay_there (t.row y.tags) (s.row y.sizes) n b told.sound.agree (told.logs n ∙ is)
+module _ {T S : Type 0} (t : Ghosts T Tag Rest) (s : Ghosts S Size ℕ) (cap : ℕ) (ls : Loaded) (h : History) (y : Yard T S) (told : Tells t s cap ls h y) where
+  -- a standing log is in the size index under its key
+  pub bay_there : (n : ℕ) (b : Body) → at (t.row y.tags) n ≡ Some (standing b) → lookup size_before (s.row y.sizes) (size_of n b) ≡ Some b.bay
+  bay_there n b is = bays_at t s cap ls h y told n _ is (size_of n b) refl ∙ ap (λ c. cond c (Some b.bay) None) (same_self size_order (size_of n b))
 
-  pub call_none : DiameterOk d × LengthOk l → FirstFit (s.row y.sizes) sp d l None → Lawful cap ls h (event (Calls sp d l) (Err refusal.NoneFits) p) × Tells t s cap ls (event (Calls sp d l) (Err refusal.NoneFits) p ∷ h) y
-  call_none ok first = (
-    record { answered = (λ _. (refl, λ n b is f. first (size_of n b) b.bay (standing_key n b is) f), λ bad. absurd (bad ok)); page = refl },
-    record { sound = told.sound; capped = told.capped; logs = told.logs },
-  )
+module _ {T S : Type 0} (t : Ghosts T Tag Rest) (s : Ghosts S Size ℕ) (cap : ℕ) (ls : Loaded) (h : History) (y : Yard T S) (told : Tells t s cap ls h y) (p : List Log) where
+  -- The call is lawfully answered, and the yard y' tells of it.
+  abbrev Told : Call → Result Answer Refusal → Yard T S → Type 0
+  Told c r y' = Lawful cap ls h (event c r p) × Tells t s cap ls (event c r p ∷ h) y'
 
-  module _ (k : Size) (first : FirstFit (s.row y.sizes) sp d l (Some k)) where
-    the_log : (b : Body) × (at (t.row y.tags) k.tag ≡ Some (record { body = b; place = place.Standing })) × (k ≡ size_of k.tag b)
-    the_log = key_of_bay (at (t.row y.tags) k.tag) k first.1.0 (sym (told.sound.agree.bays k) ∙ first.1.1)
+  module _ (n : ℕ) where
+    -- what is there, by the history
+    is_by : (o : Option Rest) → at (t.row y.tags) n ≡ o → log_at ls h n ≡ o
+    is_by o is = sym (told.logs n) ∙ is
 
-    pub not_lost : None ≡ at (t.row y.tags) k.tag → ⊥
-    not_lost e = none_some _ (e ∙ the_log.1)
+    pub withdraw_no : (e : Refusal) → SoughtAt (t.row y.tags) n place.Standing (Err e) → Told (Withdraw n) (Err e) y
+    withdraw_no e sought = (record { answered = unsought_at (t.row y.tags) n e _ (λ o. law.withdrawn o (Err e)) (told.logs n) (λ z. z) place.Standing (λ _ z. z) sought; page = refl }, still t s cap ls h y told _ (λ _. refl))
 
-    pub fits_first : (b : Body) → at (t.row y.tags) k.tag ≡ Some (record { body = b; place = place.Standing }) → k ≡ size_of k.tag b → law.called ls h sp d l (Ok (Found (record { tag = k.tag; rest = record { body = b; place = place.AtSaw } })))
-    fits_first b is ke = (
-      sym (told.logs k.tag) ∙ is,
-      refl,
-      subst (KeyFits sp d l) ke first.0,
-      λ n b' is' f ne. ⊎_elim
-          (λ e. absurd (ne (ap (λ (z : Size). z.tag) e)))
-          (λ e. subst (λ z. size_before z (size_of n b') ≡ true) ke e)
-          (first.2 (size_of n b') b'.bay (standing_key n b' is') f),
+    -- SAW and BACK are refused alike
+    at_saw_no : (e : Refusal) → SoughtAt (t.row y.tags) n place.AtSaw (Err e) → law.unless 14 (TagOk n) (Err e) (law.at_saw_only (log_at ls h n) (Err e))
+    at_saw_no e sought = unsought_at (t.row y.tags) n e _ (λ o. law.at_saw_only o (Err e)) (told.logs n) (λ z. z) place.AtSaw (λ _ z. z) sought
+
+    pub saw_no : (e : Refusal) → SoughtAt (t.row y.tags) n place.AtSaw (Err e) → Told (Saw n) (Err e) y
+    saw_no e sought = (record { answered = at_saw_no e sought; page = refl }, still t s cap ls h y told _ (λ _. refl))
+
+    pub back_no : (e : Refusal) → SoughtAt (t.row y.tags) n place.AtSaw (Err e) → Told (Back n) (Err e) y
+    back_no e sought = (record { answered = at_saw_no e sought; page = refl }, still t s cap ls h y told _ (λ _. refl))
+
+    module _ (b : Body) (lacks : is_some (at (t.row y.tags) n) ≡ false) (asc : Ascending tag_before (t.row y.tags)) (ok : TagOk n × BodyOk b) where
+      -- as many logs are present as the row has
+      present_now : length (t.row y.tags) ≡ present ls h
+      present_now = present_like ls h (t.row y.tags) asc (λ n r e. (told.sound.agree.limits n r e).0.1) told.logs
+
+      none_by : log_at ls h n ≡ None
+      none_by = is_by None (none_of (at (t.row y.tags) n) lacks)
+
+      pub arrive_full_ok : capacity t s y ≤ length (t.row y.tags) → Told (Arrive n b) (Err refusal.Full) y
+      arrive_full_ok over = (
+        record { answered = (λ _. arrive_full cap (present ls h) _ none_by (omega (arith, present_now, told.capped, told.sound.room, over)), λ bad. absurd (bad ok)); page = refl },
+        still t s cap ls h y told _ (λ _. refl),
+      )
+
+      pub arrive_ok : {X : Type 0} (y' : Yard T S) (k : Size) (r r' : Result X Fault) → k ≡ size_of n b → length (t.row y.tags) < capacity t s y
+          → Puts t.row t.room t.kept tag_before y.tags (tag_of n) (standing b) r y'.tags
+          → Puts s.row s.room s.kept size_before y.sizes k b.bay r' y'.sizes
+          → Told (Arrive n b) (Ok Done) y'
+      arrive_ok y' k r r' ke room put put' =
+          let none = none_of (at (t.row y.tags) n) lacks in
+          let fewer : length (s.row y.sizes) < s.room y.sizes = omega (arith, room, told.sound.agree.count, tally_length stands (t.row y.tags)) in (
+            record { answered = (λ _. arrive_done cap (present ls h) _ none_by (λ q. omega (arith, q, present_now, told.capped, room)), λ bad. absurd (bad ok)); page = refl },
+            changed t s cap ls h y told _ y' n None (Some (standing b))
+                (tag_put t y.tags y'.tags n r told.sound.tags_kept (standing b) none (omega (arith, room)) put)
+                (size_put s y.sizes y'.sizes n None _ told.sound.sizes_kept (bays_at t s cap ls h y told n None none) r' b k ke refl down_none fewer put')
+                (omega (arith, room))
+                (λ x e. (ok.0, subst (λ (z : Rest). BodyOk z.body) (some_inside _ x e) ok.1))
+                (λ q. logs_arrive ls h p n b q),
+          )
+
+    pub withdraw_ok : {X : Type 0} (y' : Yard T S) (b : Body) (k : Size) (r r' : Result X Fault) → SoughtAt (t.row y.tags) n place.Standing (Ok b) → k ≡ size_of n b
+        → Takes t.row t.room t.kept tag_before y.tags (tag_of n) r y'.tags
+        → Takes s.row s.room s.kept size_before y.sizes k r' y'.sizes
+        → Told (Withdraw n) (Ok Done) y'
+    withdraw_ok y' b k r r' sought ke take take' = (
+      record { answered = (λ _. subst (λ o. law.withdrawn o (Ok Done)) (sym (is_by _ sought.1)) refl, λ bad. absurd (bad sought.0)); page = refl },
+      changed t s cap ls h y told _ y' n (Some (standing b)) None
+          (tag_take t y.tags y'.tags n r told.sound.tags_kept (standing b) sought.1 take)
+          (size_take s y.sizes y'.sizes n _ None told.sound.sizes_kept (bays_at t s cap ls h y told n _ sought.1) r' b k ke refl down_none take')
+          (omega (arith, told.sound.room)) (λ x e. cc) (λ q. logs_withdraw ls h p n q),
     )
 
-    pub call_ok : {X : Type 0} (y' : Yard T S) (asc_t : Ascending tag_before (t.row y.tags)) (asc_s : Ascending size_before (s.row y.sizes))
-        → t.kept y'.tags → s.kept y'.sizes → t.room y'.tags ≡ t.room y.tags → s.room y'.sizes ≡ s.room y.sizes
-        → DiameterOk d × LengthOk l
-        → (was : Rest) → Some was ≡ at (t.row y.tags) k.tag → (r r' : Result X Fault)
-        → Sets t.row t.room t.kept tag_before y.tags (record { 0 = k.tag }) (record { body = was.body; place = place.AtSaw }) r y'.tags
-        → Takes s.row s.room s.kept size_before y.sizes k r' y'.sizes
-        → Lawful cap ls h (event (Calls sp d l) (Ok (Found (record { tag = k.tag; rest = record { body = was.body; place = place.AtSaw } }))) p)
-        × Tells t s cap ls (event (Calls sp d l) (Ok (Found (record { tag = k.tag; rest = record { body = was.body; place = place.AtSaw } }))) p ∷ h) y'
-    call_ok y' asc_t asc_s kt ks rt rs ok was got r r' set take =
-        let n = k.tag in
-        let b = was.body in
-        let e : record { body = the_log.0; place = place.Standing } ≡ was = some_inside _ was (sym the_log.1 ∙ sym got) in
-        let be : the_log.0 ≡ b = ap (λ (z : Rest). z.body) e in
-        let is' : at (t.row y.tags) n ≡ Some (record { body = b; place = place.Standing }) = the_log.1 ∙ ap (λ z. Some (record { body = z; place = place.Standing })) be in
-        let ke : k ≡ size_of n b = the_log.2 ∙ ap (size_of n) be in (
-          record { answered = (λ _. fits_first b is' ke, λ bad. absurd (bad ok)); page = refl },
-          called t s cap ls h y y' told asc_t kt ks rt rs n b _ r r' asc_s is' set (subst (λ q. Takes s.row s.room s.kept size_before y.sizes q r' y'.sizes) ke take)
-              (logs_call ls h p n (record { body = b; place = place.Standing }) (sym (told.logs n) ∙ is') sp d l (record { tag = n; rest = record { body = b; place = place.AtSaw } }) refl),
+    pub saw_ok : {X : Type 0} (y' : Yard T S) (b : Body) (r : Result X Fault) → SoughtAt (t.row y.tags) n place.AtSaw (Ok b) → y'.sizes ≡ y.sizes
+        → Takes t.row t.room t.kept tag_before y.tags (tag_of n) r y'.tags
+        → Told (Saw n) (Ok Done) y'
+    saw_ok y' b r sought same take = (
+      record { answered = (λ _. subst (λ o. law.at_saw_only o (Ok Done)) (sym (is_by _ sought.1)) refl, λ bad. absurd (bad sought.0)); page = refl },
+      changed t s cap ls h y told _ y' n (Some (sawing b)) None
+          (tag_take t y.tags y'.tags n r told.sound.tags_kept (sawing b) sought.1 take)
+          (size_still s y.sizes y'.sizes n _ None told.sound.sizes_kept (bays_at t s cap ls h y told n _ sought.1) same (down_saw b) down_none)
+          (omega (arith, told.sound.room)) (λ x e. cc) (λ q. logs_withdraw ls h p n q),
+    )
+
+    -- a body that was within the limits still is, wherever the log goes
+    limits_at : (was r : Rest) → at (t.row y.tags) n ≡ Some was → was.body ≡ r.body → (x : Rest) → Some r ≡ Some x → TagOk n × BodyOk x.body
+    limits_at was r is be x e =
+        let old = told.sound.agree.limits n was is in
+        (old.0, subst BodyOk (be ∙ ap (λ (z : Rest). z.body) (some_inside r x e)) old.1)
+
+    pub back_ok : {X : Type 0} (y' : Yard T S) (b : Body) (k : Size) (r r' : Result X Fault) → SoughtAt (t.row y.tags) n place.AtSaw (Ok b) → k ≡ size_of n b
+        → Sets t.row t.room t.kept tag_before y.tags (tag_of n) (standing b) r y'.tags
+        → Puts s.row s.room s.kept size_before y.sizes k b.bay r' y'.sizes
+        → Told (Back n) (Ok Done) y'
+    back_ok y' b k r r' sought ke set put =
+        let tags = tag_set t y.tags y'.tags n r told.sound.tags_kept (sawing b) (standing b) sought.1 set in
+        let room : length (s.row y.sizes) < s.room y.sizes = omega (arith, tags.count, tags.long, tally_length stands (t.row y'.tags), told.sound.agree.count, told.sound.room) in (
+          record { answered = (λ _. subst (λ o. law.at_saw_only o (Ok Done)) (sym (is_by _ sought.1)) refl, λ bad. absurd (bad sought.0)); page = refl },
+          changed t s cap ls h y told _ y' n (Some (sawing b)) (Some (standing b)) tags
+              (size_put s y.sizes y'.sizes n _ _ told.sound.sizes_kept (bays_at t s cap ls h y told n _ sought.1) r' b k ke refl (down_saw b) room put)
+              (omega (arith, told.sound.room)) (limits_at (sawing b) (standing b) sought.1 refl)
+              (λ q. logs_back ls h p n (sawing b) (is_by _ sought.1) q),
         )
+
+  module _ (sp : Species) (d l : ℕ) (ok : DiameterOk d × LengthOk l) (o : Option Size) (sought : s.kept y.sizes → LimitsOf (s.row y.sizes) → FirstFit (s.row y.sizes) sp d l o) where
+    first_is : (o' : Option Size) → o ≡ o' → FirstFit (s.row y.sizes) sp d l o'
+    first_is o' e = subst (FirstFit (s.row y.sizes) sp d l) e (sought told.sound.sizes_kept (limits_of (t.row y.tags) (s.row y.sizes) told.sound.agree))
+
+    pub call_none : o ≡ None → Told (Calls sp d l) (Err refusal.NoneFits) y
+    call_none e = (
+      record { answered = (λ _. (refl, λ n b is f. first_is None e (size_of n b) b.bay (bay_there t s cap ls h y told n b (told.logs n ∙ is)) f), λ bad. absurd (bad ok)); page = refl },
+      still t s cap ls h y told _ (λ _. refl),
+    )
+
+    module _ (k : Size) (found : o ≡ Some k) (got : Option Rest) (get : t.kept y.tags → got ≡ at (t.row y.tags) k.tag) where
+      first : FirstFit (s.row y.sizes) sp d l (Some k)
+      first = first_is (Some k) found
+
+      the_log : (b : Body) × (at (t.row y.tags) k.tag ≡ Some (standing b)) × (k ≡ size_of k.tag b)
+      the_log = key_of_bay (at (t.row y.tags) k.tag) k first.1.0 (sym (told.sound.agree.bays k) ∙ first.1.1)
+
+      got_it : got ≡ Some (standing the_log.0)
+      got_it = get told.sound.tags_kept ∙ the_log.1
+
+      pub not_lost : got ≡ None → ⊥
+      not_lost e = let f = sym e ∙ got_it in cc
+
+      fits_first : (b : Body) → at (t.row y.tags) k.tag ≡ Some (standing b) → k ≡ size_of k.tag b → law.called ls h sp d l (Ok (Found (record { tag = k.tag; rest = sawing b })))
+      fits_first b is ke = (
+        is_by k.tag _ is,
+        refl,
+        subst (KeyFits sp d l) ke first.0,
+        λ n b' is' f ne. ⊎_elim
+            (λ e. absurd (ne (ap (λ (z : Size). z.tag) e)))
+            (λ e. subst (λ z. size_before z (size_of n b') ≡ true) ke e)
+            (first.2 (size_of n b') b'.bay (bay_there t s cap ls h y told n b' (told.logs n ∙ is')) f),
+      )
+
+      pub call_ok : {X : Type 0} (y' : Yard T S) (was : Rest) (r r' : Result X Fault) → got ≡ Some was
+          → Sets t.row t.room t.kept tag_before y.tags (tag_of k.tag) (sawing was.body) r y'.tags
+          → Takes s.row s.room s.kept size_before y.sizes k r' y'.sizes
+          → Told (Calls sp d l) (Ok (Found (record { tag = k.tag; rest = sawing was.body }))) y'
+      call_ok y' was r r' there set take =
+          let n = k.tag in
+          let b = was.body in
+          let be : the_log.0 ≡ b = ap (λ (z : Rest). z.body) (some_inside (standing the_log.0) was (sym got_it ∙ there)) in
+          let is : at (t.row y.tags) n ≡ Some (standing b) = the_log.1 ∙ ap (λ z. Some (standing z)) be in
+          let ke : k ≡ size_of n b = the_log.2 ∙ ap (size_of n) be in (
+            record { answered = (λ _. fits_first b is ke, λ bad. absurd (bad ok)); page = refl },
+            changed t s cap ls h y told _ y' n (Some (standing b)) (Some (sawing b))
+                (tag_set t y.tags y'.tags n r told.sound.tags_kept (standing b) (sawing b) is set)
+                (size_take s y.sizes y'.sizes n _ _ told.sound.sizes_kept (bays_at t s cap ls h y told n _ is) r' b k ke refl (down_saw b) take)
+                (omega (arith, told.sound.room)) (limits_at n (standing b) (sawing b) is refl)
+                (λ q. logs_call ls h p n (standing b) (is_by n _ is) sp d l (record { tag = n; rest = sawing b }) refl q),
+          )

@@ -19,7 +19,7 @@ module _ {K R : Type 0} (f : R → Bool) where
 
 module _ {K R : Type 0} {b : K → K → Bool} (o : Order b) (f : R → Bool) (k : K) (v : R) where
   pub tally_removed : (row : List (K × R)) → Ascending b row → lookup b row k ≡ Some v → tally f (removed b row k) + cond (f v) 1 0 ≡ tally f row
-  tally_removed [] asc h = let z : ◌≡◌ {A = ℕ} 0 1 = cc in omega arith
+  tally_removed [] asc h = cc
   tally_removed (p ∷ ps) asc h = step p ps (same b p.0 k) refl asc.0 h (tally_removed ps asc.1)
     where
       step : (p : K × R) (ps : List (K × R)) (t : Bool) → same b p.0 k ≡ t → After b p.0 ps → cond t (Some p.1) (lookup b ps k) ≡ Some v → (lookup b ps k ≡ Some v → tally f (removed b ps k) + cond (f v) 1 0 ≡ tally f ps) → tally f (cond t (removed b ps k) (p ∷ removed b ps k)) + cond (f v) 1 0 ≡ cond (f p.1) 1 0 + tally f ps
@@ -32,7 +32,7 @@ module _ {K R : Type 0} {b : K → K → Bool} (o : Order b) (f : R → Bool) (k
       step p ps false s after h ih = omega (arith, ih h)
 
   pub tally_updated : (w : R) (row : List (K × R)) → Ascending b row → lookup b row k ≡ Some v → tally f (updated b row k w) + cond (f v) 1 0 ≡ tally f row + cond (f w) 1 0
-  tally_updated w [] asc h = let z : ◌≡◌ {A = ℕ} 0 1 = cc in omega arith
+  tally_updated w [] asc h = cc
   tally_updated w (p ∷ ps) asc h = step w p ps (same b p.0 k) refl asc.0 h (tally_updated w ps asc.1)
     where
       step : (w : R) (p : K × R) (ps : List (K × R)) (t : Bool) → same b p.0 k ≡ t → After b p.0 ps → cond t (Some p.1) (lookup b ps k) ≡ Some v → (lookup b ps k ≡ Some v → tally f (updated b ps k w) + cond (f v) 1 0 ≡ tally f ps + cond (f w) 1 0) → tally f (cond t ((p.0, w) ∷ updated b ps k w) (p ∷ updated b ps k w)) + cond (f v) 1 0 ≡ cond (f p.1) 1 0 + tally f ps + cond (f w) 1 0

@@ -7,3 +7,4 @@ pub mod Refusals
 pub mod Serving
 pub mod Sizes
 pub mod Tells
+pub mod Walk

@@ -26,7 +26,7 @@ runs s e [] = []
 runs s e (p ∷ ps) = cond (in_range s e p.0) (to_log p ∷ runs s e ps) []
 
 -- the row from the first key on that passes
-abbrev pub drop_to : (Size → Bool) → List (Size × ℕ) → List (Size × ℕ)
+abbrev pub drop_to : {K R : Type 0} → (K → Bool) → List (K × R) → List (K × R)
 drop_to f [] = []
 drop_to f (p ∷ ps) = cond (f p.0) (p ∷ ps) (drop_to f ps)
 

@@ -5,7 +5,10 @@ use Rattle.ordered.specs.Meaning.{lookup, same}
 use Rattle.logs.specs.declared.call.Call.{Call}
 use Rattle.logs.specs.declared.keys.Size.{Size}
 use Rattle.logs.specs.declared.keys.Tag.{Tag}
+use Rattle.logs.specs.declared.log.Body.{Body}
 use Rattle.logs.specs.declared.log.Log.{Log}
+use Rattle.logs.specs.declared.log.Place.{Place}
+use Rattle.logs.specs.declared.log.Place.TheVariants as place
 use Rattle.logs.specs.declared.log.Rest.{Rest}
 use Rattle.logs.specs.Limits.{TagOk, BodyOk}
 use Rattle.logs.specs.Orders.{tag_before, size_before}
@@ -31,11 +34,30 @@ abbrev pub Sought : List (Tag × Rest) → ℕ → Result Rest Refusal → Type 
 Sought row t (Ok r) = TagOk t × (at row t ≡ Some r)
 Sought row t (Err e) = ((refusal_number e ≡ 14) × (TagOk t → ⊥)) ⊎ ((refusal_number e ≡ 22) × TagOk t × (at row t ≡ None))
 
+-- the place where a log is that is not at p, and the number under which it is refused there
+abbrev pub elsewhere : Place → Place
+elsewhere place.Standing = place.AtSaw
+elsewhere place.AtSaw = place.Standing
+
+abbrev pub place_number : Place → ℕ
+place_number place.Standing = 24
+place_number place.AtSaw = 23
+
+-- What a tag is asked for at the place p: the log that is there, or 14 outside the limits, 22 absent, 23 at the saw, 24 standing.
+abbrev pub SoughtAt : List (Tag × Rest) → ℕ → Place → Result Body Refusal → Type 0
+SoughtAt row t p (Ok b) = TagOk t × (at row t ≡ Some (record { body = b; place = p }))
+SoughtAt row t p (Err e) = Sought row t (Err e) ⊎ ((refusal_number e ≡ place_number (elsewhere p)) × TagOk t × ((b : Body) × (at row t ≡ Some (record { body = b; place = elsewhere p }))))
+
 -- The two rows agree: the size index has exactly the standing logs.
 pub record Agree (tags : List (Tag × Rest)) (sizes : List (Size × ℕ)) : Type 0 where
   pub bays : (k : Size) → lookup size_before sizes k ≡ bay_at (at tags k.tag) k
   pub count : length sizes ≡ tally stands tags
   pub limits : (t : ℕ) (r : Rest) → at tags t ≡ Some r → TagOk t × BodyOk r.body
+
+-- a refusal changes nothing
+abbrev pub Stays : {Y : Type 0} → Result Answer Refusal → Y → Y → Type 0
+Stays (Ok a) y y' = Unit {0}
+Stays (Err e) y y' = y' ≡ y
 
 module _ {T S : Type 0} (t : Ghosts T Tag Rest) (s : Ghosts S Size ℕ) where
   -- the lesser of the two
@@ -63,7 +85,12 @@ module _ {T S : Type 0} (t : Ghosts T Tag Rest) (s : Ghosts S Size ℕ) where
   ObeysAll y calls answers p p' y' = (cap : ℕ) (ls : Loaded) (h : History) → Tells cap ls h y
       → (es : List Event) × Runs cap ls h calls answers p p' es × Tells cap ls (extended h es) y'
 
--- a refusal changes nothing
-abbrev pub Stays : {Y : Type 0} → Result Answer Refusal → Y → Y → Type 0
-Stays (Ok a) y y' = Unit {0}
-Stays (Err e) y y' = y' ≡ y
+  -- A call that is answered: it obeys the law, and a refusal changes nothing.
+  pub record Performs (y : Yard T S) (c : Call) (r : Result Answer Refusal) (p p' : List Log) (y' : Yard T S) : Type 0 where
+    pub law : Obeys y (record { call = c; answer = r; before = p; after = p' }) y'
+    pub still : Stays r y y'
+    pub page : Stays r p p'
+
+  -- A call that leaves the page as it is.
+  abbrev pub PerformsOffPage : Yard T S → Call → Result Answer Refusal → Yard T S → Type 0
+  PerformsOffPage y c r y' = (p : List Log) → Performs y c r p p y'

@@ -1,7 +1,7 @@
 use logs::Log;
 
 // What an accepted call answers.
-#[derive(Clone, Copy)]
+#[derive(Clone, Copy, Debug, PartialEq, Eq)]
 pub enum Answer {
     Done,
     Found(Log),

@@ -1,8 +1,7 @@
 ghost use Rattle.std.specs.Prelude.{◌≡◌, List, Decides};
 ghost use Rattle.logs.specs.Limits.{DiameterOk, LengthOk};
 ghost use Rattle.log_yard.specs.Fitting.{LimitsOf, FirstFit};
-ghost use Rattle.log_yard.specs.History.{event};
-ghost use Rattle.log_yard.specs.Tells.{Stays, Obeys};
+ghost use Rattle.log_yard.specs.Tells.{PerformsOffPage};
 
 use crate::{Answer, Refusal, Yard};
 use logs::{Call, Limits, Log, Place, Rest, Size, Species, Tag};
@@ -10,18 +9,6 @@ use ordered::OrderedIndex;
 
 // No log has a larger diameter.
 const THICKEST: u16 = Limits::DIAMETER.high as u16;
-
-pub(crate) fn diameter_fits(diameter: u16) -> bool
-    ensures { Decides result (DiameterOk diameter) }
-{
-    Limits::DIAMETER.allow(diameter as u32)
-}
-
-fn length_fits(length: u16) -> bool
-    ensures { Decides result (LengthOk length) }
-{
-    Limits::LENGTH.allow(length as u32)
-}
 
 impl<T: OrderedIndex<Tag, Rest>, S: OrderedIndex<Size, u8>> Yard<T, S> {
     // The first standing log that fits, by its key. It hops from diameter to diameter, past the logs that are too short.
@@ -36,41 +23,32 @@ impl<T: OrderedIndex<Tag, Rest>, S: OrderedIndex<Size, u8>> Yard<T, S> {
                 length,
                 tag: 0,
             };
-            match self.sizes.at_or_above(from) {
-                None => return None,
-                Some((key, _)) => {
-                    if key.species.code() != species.code() {
-                        return None;
-                    }
-                    if key.length >= length {
-                        return Some(key);
-                    }
-                    d = if key.diameter > d {
-                        key.diameter
-                    } else {
-                        d + 1
-                    };
-                }
+            let (key, _) = self.sizes.at_or_above(from)?;
+            if key.species != species {
+                return None;
             }
+            if key.length >= length {
+                return Some(key);
+            }
+            d = key.diameter.max(d + 1);
         }
         None
     }
 
     // Sends the first standing log that fits to the saw.
     pub fn call(&mut self, species: Species, diameter: u16, length: u16) -> Result<Answer, Refusal>
-        ensures law { (page : List Log) → Obeys T.OrderedIndex S.OrderedIndex self.old (event (Call.Call species diameter length) result page) self.new }
-        ensures still { Stays result self.old self.new }
+        ensures { PerformsOffPage T.OrderedIndex S.OrderedIndex self.old (Call.Call species diameter length) result self.new }
     {
-        if !diameter_fits(diameter) || !length_fits(length) {
+        if !Limits::DIAMETER.allow(u32::from(diameter))
+            || !Limits::LENGTH.allow(u32::from(length))
+        {
             return Err(Refusal::Outside);
         }
-        let Some(key) = self.first_fit(species, diameter, length) else {
-            return Err(Refusal::NoneFits);
-        };
+        let key = self
+            .first_fit(species, diameter, length)
+            .ok_or(Refusal::NoneFits)?;
         // It is there, as every standing log is.
-        let Some(was) = self.tags.get(Tag(key.tag)) else {
-            return Err(Refusal::NoneFits);
-        };
+        let was = self.tags.get(Tag(key.tag)).ok_or(Refusal::NoneFits)?;
         let rest = Rest {
             body: was.body,
             place: Place::AtSaw,

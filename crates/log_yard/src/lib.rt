@@ -6,6 +6,7 @@ mod calling;
 mod listing;
 mod moves;
 mod opening;
+mod pairs;
 mod refusal;
 mod running;
 mod serving;

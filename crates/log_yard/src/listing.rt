@@ -2,12 +2,11 @@ ghost use Rattle.std.specs.Prelude.{◌≡◌};
 ghost use Rattle.ordered.specs.Meaning.{Ascending};
 ghost use Rattle.logs.specs.Orders.{size_before};
 ghost use Rattle.log_yard.specs.Pages.{Filled, range, next_of};
-ghost use Rattle.log_yard.specs.Tells.{Stays, Obeys};
+ghost use Rattle.log_yard.specs.Tells.{Performs};
 
-use crate::calling::diameter_fits;
-use crate::yard::size_of;
+use crate::pairs::Pairs;
 use crate::{Answer, Refusal, Yard};
-use logs::{Body, Call, Log, Place, Rest, Size, Species, Tag};
+use logs::{Body, Call, Limits, Log, Place, Rest, Size, Species, Tag};
 use ordered::OrderedIndex;
 
 // No page of a LIST has more logs than these.
@@ -17,24 +16,21 @@ pub(crate) const MOST_LISTED: usize = 100;
 fn in_range(next: Option<(Size, u8)>, species: Species, high: u16) -> Option<Log>
     ensures { result ≡ next_of species high next }
 {
-    let Some((key, bay)) = next else {
+    let (key, bay) = next?;
+    if key.species != species || key.diameter > high {
         return None;
-    };
-    if key.species.code() == species.code() && key.diameter <= high {
-        let body = Body {
-            species: key.species,
-            diameter: key.diameter,
-            length: key.length,
-            bay,
-        };
-        let place = Place::Standing;
-        Some(Log {
-            tag: key.tag,
-            rest: Rest { body, place },
-        })
-    } else {
-        None
     }
+    let body = Body {
+        species,
+        diameter: key.diameter,
+        length: key.length,
+        bay,
+    };
+    let place = Place::Standing;
+    Some(Log {
+        tag: key.tag,
+        rest: Rest { body, place },
+    })
 }
 
 impl<T: OrderedIndex<Tag, Rest>, S: OrderedIndex<Size, u8>> Yard<T, S> {
@@ -48,21 +44,16 @@ impl<T: OrderedIndex<Tag, Rest>, S: OrderedIndex<Size, u8>> Yard<T, S> {
             length: 0,
             tag: 0,
         };
-        let mut n: usize = 0;
-        let mut next = in_range(self.sizes.at_or_above(from), species, high);
-        while n < page.len() && n < MOST_LISTED {
-            let Some(log) = next else {
+        let mut pairs = Pairs::from_key(&self.sizes, from);
+        let most = page.len().min(MOST_LISTED);
+        let shown = &mut page[..most];
+        for (n, entry) in shown.iter_mut().enumerate() {
+            let Some(log) = in_range(pairs.next(), species, high) else {
                 return (n, false);
             };
-            page[n] = log;
-            n += 1;
-            next = in_range(
-                self.sizes.above(size_of(log.tag, log.rest.body)),
-                species,
-                high,
-            );
+            *entry = log;
         }
-        (n, next.is_some())
+        (most, in_range(pairs.next(), species, high).is_some())
     }
 
     // Writes the standing logs of the species from the one diameter to the other, in size order.
@@ -73,10 +64,9 @@ impl<T: OrderedIndex<Tag, Rest>, S: OrderedIndex<Size, u8>> Yard<T, S> {
         high: u16,
         page: &mut [Log],
     ) -> Result<Answer, Refusal>
-        ensures law { Obeys T.OrderedIndex S.OrderedIndex self.now (record { call = Call.List species low high; answer = result; before = page.old; after = page.new }) self.now }
-        ensures still { Stays result page.old page.new }
+        ensures { Performs T.OrderedIndex S.OrderedIndex self.now (Call.List species low high) result page.old page.new self.now }
     {
-        if !diameter_fits(low) || !diameter_fits(high) {
+        if !Limits::DIAMETER.allow(u32::from(low)) || !Limits::DIAMETER.allow(u32::from(high)) {
             return Err(Refusal::Outside);
         }
         if low > high {

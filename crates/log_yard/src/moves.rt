@@ -1,6 +1,5 @@
 ghost use Rattle.std.specs.Prelude.{◌≡◌, List};
-ghost use Rattle.log_yard.specs.History.{event};
-ghost use Rattle.log_yard.specs.Tells.{Sought, Stays, Obeys, capacity};
+ghost use Rattle.log_yard.specs.Tells.{Sought, SoughtAt, PerformsOffPage, capacity};
 
 use crate::yard::size_of;
 use crate::{Answer, Refusal, Yard};
@@ -25,15 +24,26 @@ impl<T: OrderedIndex<Tag, Rest>, S: OrderedIndex<Size, u8>> Yard<T, S> {
         if !Tag(tag).fits() {
             return Err(Refusal::Outside);
         }
-        match self.tags.get(Tag(tag)) {
-            Some(rest) => Ok(rest),
-            None => Err(Refusal::Absent),
+        self.tags.get(Tag(tag)).ok_or(Refusal::Absent)
+    }
+
+    // What the log is, if it is at the place.
+    fn body_at(&self, tag: u32, place: Place) -> Result<Body, Refusal>
+        ensures { T.OrderedIndex.kept self.now.tags → SoughtAt (T.OrderedIndex.row self.now.tags) tag place result }
+    {
+        let rest = self.rest_of(tag)?;
+        if rest.place == place {
+            return Ok(rest.body);
+        }
+        match rest.place {
+            Place::Standing => Err(Refusal::Standing),
+            Place::AtSaw => Err(Refusal::AtSaw),
         }
     }
 
     // The log with its place.
     pub fn find(&self, tag: u32) -> Result<Answer, Refusal>
-        ensures { (page : List Log) → Obeys T.OrderedIndex S.OrderedIndex self.now (event (Call.Find tag) result page) self.now }
+        ensures { PerformsOffPage T.OrderedIndex S.OrderedIndex self.now (Call.Find tag) result self.now }
     {
         let rest = self.rest_of(tag)?;
         Ok(Answer::Found(Log { tag, rest }))
@@ -41,8 +51,7 @@ impl<T: OrderedIndex<Tag, Rest>, S: OrderedIndex<Size, u8>> Yard<T, S> {
 
     // Adds a standing log.
     pub fn arrive(&mut self, tag: u32, body: Body) -> Result<Answer, Refusal>
-        ensures law { (page : List Log) → Obeys T.OrderedIndex S.OrderedIndex self.old (event (Call.Arrive tag body) result page) self.new }
-        ensures still { Stays result self.old self.new }
+        ensures { PerformsOffPage T.OrderedIndex S.OrderedIndex self.old (Call.Arrive tag body) result self.new }
     {
         if !Tag(tag).fits() || !body.fits() {
             return Err(Refusal::Outside);
@@ -64,51 +73,32 @@ impl<T: OrderedIndex<Tag, Rest>, S: OrderedIndex<Size, u8>> Yard<T, S> {
 
     // Removes a standing log.
     pub fn withdraw(&mut self, tag: u32) -> Result<Answer, Refusal>
-        ensures law { (page : List Log) → Obeys T.OrderedIndex S.OrderedIndex self.old (event (Call.Withdraw tag) result page) self.new }
-        ensures still { Stays result self.old self.new }
+        ensures { PerformsOffPage T.OrderedIndex S.OrderedIndex self.old (Call.Withdraw tag) result self.new }
     {
-        let rest = self.rest_of(tag)?;
-        match rest.place {
-            Place::AtSaw => Err(Refusal::AtSaw),
-            Place::Standing => {
-                let _ = self.sizes.take(size_of(tag, rest.body));
-                let _ = self.tags.take(Tag(tag));
-                Ok(Answer::Done)
-            }
-        }
+        let body = self.body_at(tag, Place::Standing)?;
+        let _ = self.sizes.take(size_of(tag, body));
+        let _ = self.tags.take(Tag(tag));
+        Ok(Answer::Done)
     }
 
     // Removes a log at the saw.
     pub fn saw(&mut self, tag: u32) -> Result<Answer, Refusal>
-        ensures law { (page : List Log) → Obeys T.OrderedIndex S.OrderedIndex self.old (event (Call.Saw tag) result page) self.new }
-        ensures still { Stays result self.old self.new }
+        ensures { PerformsOffPage T.OrderedIndex S.OrderedIndex self.old (Call.Saw tag) result self.new }
     {
-        let rest = self.rest_of(tag)?;
-        match rest.place {
-            Place::Standing => Err(Refusal::Standing),
-            Place::AtSaw => {
-                let key = Tag(tag);
-                let _ = self.tags.take(key);
-                Ok(Answer::Done)
-            }
-        }
+        self.body_at(tag, Place::AtSaw)?;
+        let key = Tag(tag);
+        let _ = self.tags.take(key);
+        Ok(Answer::Done)
     }
 
     // Makes a log at the saw stand again.
     pub fn back(&mut self, tag: u32) -> Result<Answer, Refusal>
-        ensures law { (page : List Log) → Obeys T.OrderedIndex S.OrderedIndex self.old (event (Call.Back tag) result page) self.new }
-        ensures still { Stays result self.old self.new }
+        ensures { PerformsOffPage T.OrderedIndex S.OrderedIndex self.old (Call.Back tag) result self.new }
     {
-        let rest = self.rest_of(tag)?;
-        match rest.place {
-            Place::Standing => Err(Refusal::Standing),
-            Place::AtSaw => {
-                let body = rest.body;
-                let place = Place::Standing;
-                let _ = self.tags.set(Tag(tag), Rest { body, place });
-                let _ = self.sizes.put(size_of(tag, body), body.bay);
-                Ok(Answer::Done)
-            }
-        }
+        let body = self.body_at(tag, Place::AtSaw)?;
+        let place = Place::Standing;
+        let _ = self.tags.set(Tag(tag), Rest { body, place });
+        let _ = self.sizes.put(size_of(tag, body), body.bay);
+        Ok(Answer::Done)
     }
 }

@@ -1,13 +1,14 @@
 ghost use Rattle.std.specs.Prelude.{◌≡◌, ◌≤◌, [], length, Decides};
 ghost use Rattle.log_yard.specs.Opens.{AllFit, Checked, Fills, GivesBack, Opens};
 
+use crate::pairs::Pairs;
 use crate::yard::size_of;
 use crate::{OpenRefusal, Yard};
 use logs::{Place, Rest, Size, Tag};
 use ordered::OrderedIndex;
 
 // Two indexes that were not opened, as they were, and why.
-#[derive(Drop)]
+#[derive(Debug, PartialEq, Eq, Drop)]
 pub struct Unopened<T, S> {
     pub refusal: OpenRefusal,
     pub tags: T,
@@ -18,34 +19,17 @@ pub struct Unopened<T, S> {
 fn all_fit<T: OrderedIndex<Tag, Rest>>(tags: &T) -> bool
     ensures { T.OrderedIndex.kept tags.now → Decides result (AllFit (T.OrderedIndex.row tags.now)) }
 {
-    let count = tags.count();
-    let mut next = tags.at_or_above(Tag(0));
-    for _i in 0..count {
-        let Some((tag, rest)) = next else {
-            return true;
-        };
-        if !tag.fits() || !rest.body.fits() {
-            return false;
-        }
-        next = tags.above(tag);
-    }
-    true
+    Pairs::from_key(tags, Tag(0)).all(|(tag, rest)| tag.fits() && rest.body.fits())
 }
 
 // Puts each standing log into the size index.
 fn stand_all<T: OrderedIndex<Tag, Rest>, S: OrderedIndex<Size, u8>>(tags: &T, sizes: &mut S)
     ensures { T.OrderedIndex.kept tags.now → S.OrderedIndex.kept sizes.old → S.OrderedIndex.row sizes.old ≡ [] → length (T.OrderedIndex.row tags.now) ≤ S.OrderedIndex.room sizes.old → Fills S.OrderedIndex (T.OrderedIndex.row tags.now) sizes.old sizes.new }
 {
-    let count = tags.count();
-    let mut next = tags.at_or_above(Tag(0));
-    for _i in 0..count {
-        let Some((tag, rest)) = next else {
-            return;
-        };
-        if let Place::Standing = rest.place {
+    for (tag, rest) in Pairs::from_key(tags, Tag(0)) {
+        if rest.place == Place::Standing {
             let _ = sizes.put(size_of(tag.0, rest.body), rest.body.bay);
         }
-        next = tags.above(tag);
     }
 }
 

@@ -1,5 +1,5 @@
 ghost use Rattle.std.specs.Prelude.{◌≡◌, min, length, take, drop};
-ghost use Rattle.log_yard.specs.Tells.{Stays, Obeys, ObeysAll};
+ghost use Rattle.log_yard.specs.Tells.{Performs, ObeysAll};
 
 use crate::{Answer, Refusal, Yard};
 use logs::{Call, Log, Rest, Size, Tag};
@@ -8,9 +8,7 @@ use ordered::OrderedIndex;
 impl<T: OrderedIndex<Tag, Rest>, S: OrderedIndex<Size, u8>> Yard<T, S> {
     // Does the call. Only a LIST writes into the page.
     pub fn perform(&mut self, call: &Call, page: &mut [Log]) -> Result<Answer, Refusal>
-        ensures law { Obeys T.OrderedIndex S.OrderedIndex self.old (record { call = call.entry.now; answer = result; before = page.old; after = page.new }) self.new }
-        ensures still { Stays result self.old self.new }
-        ensures page { Stays result page.old page.new }
+        ensures { Performs T.OrderedIndex S.OrderedIndex self.old call.entry.now result page.old page.new self.new }
     {
         match *call {
             Call::Arrive(tag, body) => self.arrive(tag, body),
@@ -35,8 +33,8 @@ impl<T: OrderedIndex<Tag, Rest>, S: OrderedIndex<Size, u8>> Yard<T, S> {
         ensures rest { drop result answers.new ≡ drop result answers.old }
     {
         let count = calls.len().min(answers.len());
-        for i in 0..count {
-            answers[i] = self.perform(&calls[i], page);
+        for (i, call) in calls[..count].iter().enumerate() {
+            answers[i] = self.perform(call, page);
         }
         count
     }

@@ -1,34 +1,31 @@
-use Rattle.std.proofs.Common.{◌≤◌, [], ◌∷◌, ◌++◌, length, sym, refl, subst, arith}
+use Rattle.std.proofs.Common.{refl, subst, rules}
+use Rattle.logs.specs.declared.keys.Tag.{Tag}
+use Rattle.logs.specs.declared.log.Place.TheVariants as place
+use Rattle.logs.specs.declared.log.Rest.{Rest}
 use Rattle.log_yard.specs.Opens.{Fills}
-use Rattle.log_yard.proofs.Opened as walk
+use Rattle.log_yard.proofs.Opened as opened
+use Rattle.log_yard.proofs.Steps.{apart}
+use Rattle.log_yard.proofs.Walking.{next_tag, last_tag}
 use Rattle.log_yard.proofs.opening.stand_all.Goals as goal
-use Rattle.log_yard.proofs.opening.stand_all.Goals.{in-Standing, in_default-place}
 
-pub loop-i-init : goal.loop-i-init
-loop-i-init g c = λ kt ks e few. let row = g.T.OrderedIndex.row c.args.tags.now in
-    ([], row, refl, walk.walk_start row c.at_or_above-next.result (c.at_or_above-next.ensures.meaning.gives kt), refl, walk.fill_empty g.S.OrderedIndex c.args.sizes.now ks e)
+pub loop-tag-preserved-then-eq : goal.loop-tag-preserved-then-eq
+loop-tag-preserved-then-eq g c = λ kt ks e few.
+    let made = c.from_key-tag-items in
+    let p : Tag × Rest = (c.in-Some.tag, c.in-Some.rest) in
+    let n = next_tag g.T.OrderedIndex c.args.tags.now made.result c.into_iter-tag-iterator.result c.into_iter-tag-iterator.ensures.into_iter_gives made.ensures.lent kt made.ensures.left c.loop-tag.yielded c.loop-tag.tag-iterator c.next.new.self c.loop-tag.yielded_by c.next.result c.next.ensures.steps p c.in-Some.is in
+    opened.fill_standing g.S.OrderedIndex c.args.sizes.now c.loop-tag.sizes c.put.new.self (g.T.OrderedIndex.row c.args.tags.now) c.loop-tag.yielded n.0 p (made.ensures.ascends kt) n.1 (c.loop-tag.invariant kt ks e few)
+    c.size_of.result c.put.result few (search rules) c.size_of.ensures c.put.ensures.meaning
 
-pub returns-in_default : goal.returns-in_default
-returns-in_default g c = λ kt ks e few. let inv = c.loop-i.invariant kt ks e few in
-    subst (λ z. Fills g.S.OrderedIndex z c.args.sizes.now c.loop-i.sizes) (walk.walk_none (g.T.OrderedIndex.row c.args.tags.now) inv.0 inv.1 c.loop-i.next inv.2 c.in_default.is inv.3) inv.5
-
-pub loop-i-preserved : goal.loop-i-preserved
-loop-i-preserved g c = λ kt ks e few.
-    let inv = c.loop-i.invariant kt ks e few in
-    let s = g.S.OrderedIndex in
-    let old = c.args.sizes.now in
-    let row = g.T.OrderedIndex.row c.args.tags.now in
-    let n = walk.walk_next row inv.0 inv.1 (c.in-Some.tag, c.in-Some.rest) c.loop-i.next (c.at_or_above-next.ensures.meaning.orderly kt).ascending inv.2 c.in-Some.is inv.3 in
-    let pre = inv.0 ++ ((c.in-Some.tag, c.in-Some.rest) ∷ []) in
-    let filled : Fills s pre old c.match-rest.sizes = elim c.match-rest.branch [
-      | in-Standing w ↦ subst (Fills s pre old) (sym w.sizes-is) (walk.fill_one s old c.loop-i.sizes w.put.new.self row inv.0 n.left (c.in-Some.tag, c.in-Some.rest) w.size_of.result w.put.result n.split n.whole few w.in-Standing.is w.size_of.ensures inv.5 (w.put.ensures.meaning.stays inv.5.sizes_kept) w.put.ensures.meaning.capacity w.put.ensures.meaning)
-      | in_default-place w ↦ subst (Fills s pre old) (sym w.sizes-is) (walk.fill_none s old c.loop-i.sizes inv.0 n.left (c.in-Some.tag, c.in-Some.rest) n.split w.in_default-place.is inv.5)
-    ] in
-    (pre, n.left, n.on, n.head c.above-next.result (c.above-next.ensures.meaning.gives kt), walk.length_push inv.0 (c.in-Some.tag, c.in-Some.rest) c.loop-i._i inv.4, filled)
+pub loop-tag-preserved : goal.loop-tag-preserved
+loop-tag-preserved g c = λ kt ks e few.
+    let made = c.from_key-tag-items in
+    let p : Tag × Rest = (c.in-Some.tag, c.in-Some.rest) in
+    let n = next_tag g.T.OrderedIndex c.args.tags.now made.result c.into_iter-tag-iterator.result c.into_iter-tag-iterator.ensures.into_iter_gives made.ensures.lent kt made.ensures.left c.loop-tag.yielded c.loop-tag.tag-iterator c.next.new.self c.loop-tag.yielded_by c.next.result c.next.ensures.steps p c.in-Some.is in
+    opened.fill_at_saw g.S.OrderedIndex c.args.sizes.now c.loop-tag.sizes c.loop-tag.sizes (g.T.OrderedIndex.row c.args.tags.now) c.loop-tag.yielded n.0 p (made.ensures.ascends kt) n.1 (c.loop-tag.invariant kt ks e few)
+    refl (apart c.in-Some.rest.place place.Standing c.if-eq.ensures)
 
 pub returns : goal.returns
 returns g c = λ kt ks e few.
-    let inv = c.loop-i.invariant kt ks e few in
-    let row = g.T.OrderedIndex.row c.args.tags.now in
-    let h : length row ≤ length inv.0 = omega (arith, c.loop-i-test.false, c.count-count.ensures.meaning.gives kt, inv.4) in
-    subst (λ z. Fills g.S.OrderedIndex z c.args.sizes.now c.loop-i.sizes) (walk.walk_done row inv.0 inv.1 inv.2 h) inv.5
+    let made = c.from_key-tag-items in
+    let whole = last_tag g.T.OrderedIndex c.args.tags.now made.result c.into_iter-tag-iterator.result c.into_iter-tag-iterator.ensures.into_iter_gives made.ensures.lent kt made.ensures.left c.loop-tag.yielded c.loop-tag.tag-iterator c.next.new.self c.loop-tag.yielded_by c.next.result c.next.ensures.steps c.in-None.is in
+    subst (λ z. Fills g.S.OrderedIndex z c.args.sizes.now c.loop-tag.sizes) whole (c.loop-tag.invariant kt ks e few)

@@ -1,11 +1,7 @@
-use Rattle.std.proofs.Common.{◌≡◌, ◌≤◌, List, [], ◌++◌, length}
-use Rattle.ordered.proofs.Walks.{head_of}
-use Rattle.logs.specs.declared.keys.Tag.{Tag}
-use Rattle.logs.specs.declared.log.Rest.{Rest}
+use Rattle.std.proofs.Common.{◌≡◌, ◌≤◌, [], length}
 use Rattle.log_yard.specs.Opens.{Fills}
 use Rattle.log_yard.proofs.opening.stand_all.Given as goal
 
-abbrev pub invariant-loop-i : goal.invariant-loop-i
-invariant-loop-i g l = g.T.OrderedIndex.kept l.tags → g.S.OrderedIndex.kept l.initial.sizes → g.S.OrderedIndex.row l.initial.sizes ≡ [] → length (g.T.OrderedIndex.row l.tags) ≤ g.S.OrderedIndex.room l.initial.sizes →
-    (pre : List (Tag × Rest)) × (rest : List (Tag × Rest)) × (g.T.OrderedIndex.row l.tags ≡ pre ++ rest)
-    × (l.next ≡ head_of rest) × (length pre ≡ l._i) × Fills g.S.OrderedIndex pre l.initial.sizes l.sizes
+abbrev pub invariant-loop-tag : goal.invariant-loop-tag
+invariant-loop-tag g l = g.T.OrderedIndex.kept l.tags → g.S.OrderedIndex.kept l.initial.sizes → g.S.OrderedIndex.row l.initial.sizes ≡ [] → length (g.T.OrderedIndex.row l.tags) ≤ g.S.OrderedIndex.room l.initial.sizes →
+    Fills g.S.OrderedIndex l.yielded l.initial.sizes l.sizes

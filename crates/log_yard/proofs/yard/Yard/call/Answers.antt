@@ -1,43 +1,33 @@
-use Rattle.std.proofs.Common.{refl, rules}
+use Rattle.std.proofs.Common.{◌≡◌, refl, rules}
+use Rattle.std.proofs.lemmas.Result.{err_from_is_err_and}
+use Rattle.log_yard.specs.declared.refusal.Refusal.TheVariants as refusal
 use Rattle.log_yard.proofs.Steps as step
 use Rattle.log_yard.proofs.yard.Yard.call.Goals as goal
 
-pub returns-in_default : goal.returns-in_default
-returns-in_default g c = record {
-  law = λ page cap ls h told.
-      let t = g.T.OrderedIndex in
-      let s = g.S.OrderedIndex in
-      let y = c.args.self.now in
-      step.call_none t s cap ls h y told c.args.species c.args.diameter c.args.length page (search rules)
-      (c.in_default.ensures told.sound.sizes_kept (step.limits_of (t.row y.tags) (s.row y.sizes) told.sound.agree));
-  still = refl;
-}
+pub returns-in_err-key : goal.returns-in_err-key
+returns-in_err-key g c =
+    let p = err_from_is_err_and c.from_residual.result c.from_residual.ensures.1 in
+    let none = c.in_err-key.ensures.ok_part in
+    let e : c.in_err-key.field-0.0 ≡ refusal.NoneFits = step.ok_or_none c.first_fit.result _ _ none c.in_err-key.ensures.value in
+    rw (p.1, p.2, e) (λ page. record { law = λ cap ls h told. step.call_none g.T.OrderedIndex g.S.OrderedIndex cap ls h c.args.self.now told page c.args.species c.args.diameter c.args.length (search rules) c.first_fit.result c.first_fit.ensures none; still = refl; page = refl })
 
-pub returns-in_default-get : goal.returns-in_default-get
-returns-in_default-get g c = record {
-  law = λ page cap ls h told.
-      let t = g.T.OrderedIndex in
-      let s = g.S.OrderedIndex in
-      let y = c.args.self.now in
-      let first = c.in-Some.ensures told.sound.sizes_kept (step.limits_of (t.row y.tags) (s.row y.sizes) told.sound.agree) in
-      absurd (step.not_lost t s cap ls h y told c.args.species c.args.diameter c.args.length page c.in-Some.key first (c.in_default-get.ensures.meaning.gives told.sound.tags_kept));
-  still = refl;
-}
+pub returns-in_err-was : goal.returns-in_err-was
+returns-in_err-was g c =
+    let p = err_from_is_err_and c.from_residual-in_err-was.result c.from_residual-in_err-was.ensures.1 in
+    rw (p.1, p.2) (λ page. record {
+      law = λ cap ls h told.
+          absurd (step.not_lost g.T.OrderedIndex g.S.OrderedIndex cap ls h c.args.self.now told page c.args.species c.args.diameter c.args.length (search rules) c.first_fit.result c.first_fit.ensures
+          c.in_ok-key.key c.in_ok-key.ensures.ok_part c.get.result c.get.ensures.meaning.gives c.in_err-was.ensures.ok_part);
+      still = refl;
+      page = refl;
+    })
 
 pub returns : goal.returns
-returns g c = record {
-  law = λ page cap ls h told.
-      let t = g.T.OrderedIndex in
-      let s = g.S.OrderedIndex in
-      let y = c.args.self.now in
-      let kt = told.sound.tags_kept in
-      let ks = told.sound.sizes_kept in
-      let first = c.in-Some.ensures ks (step.limits_of (t.row y.tags) (s.row y.sizes) told.sound.agree) in
-      step.call_ok t s cap ls h y told c.args.species c.args.diameter c.args.length page c.in-Some.key first
-      (record { tags = c.set.new.self; sizes = c.take.new.self })
-      (c.get.ensures.meaning.orderly kt).ascending (c.take.ensures.meaning.orderly ks).ascending
-      (c.set.ensures.meaning.stays kt) (c.take.ensures.meaning.stays ks) c.set.ensures.meaning.capacity c.take.ensures.meaning.capacity
-      (search rules) c.in-Some-get.was (c.in-Some-get.ensures.meaning.gives kt) c.set.result c.take.result
-      c.set.ensures.meaning c.take.ensures.meaning;
+returns g c = λ page. record {
+  law = λ cap ls h told.
+      step.call_ok g.T.OrderedIndex g.S.OrderedIndex cap ls h c.args.self.now told page c.args.species c.args.diameter c.args.length (search rules) c.first_fit.result c.first_fit.ensures
+      c.in_ok-key.key c.in_ok-key.ensures.ok_part c.get.result c.get.ensures.meaning.gives
+      (record { tags = c.set.new.self; sizes = c.take.new.self }) c.in_ok-was.was' c.set.result c.take.result c.in_ok-was.ensures.ok_part c.set.ensures.meaning c.take.ensures.meaning;
   still = tt;
+  page = tt;
 }

@@ -1,45 +1,31 @@
-use Rattle.std.proofs.Common.{◌≤◌, ◌⊎◌, length, inl, inr, arith, length-set}
+use Rattle.std.proofs.Common.{◌≡◌, ◌≤◌, length, sym, refl, ap, subst, inl, inr, arith, length-take}
+use Rattle.std.proofs.lemmas.List.{set-get_or}
+use Rattle.logs.specs.Orders.{size_before}
 use Rattle.log_yard.specs.Pages.{range, runs}
+use Rattle.log_yard.specs.Walk.{pairs_left}
 use Rattle.log_yard.proofs.Lists as lists
 use Rattle.log_yard.proofs.yard.Yard.fill.Goals as goal
-use Rattle.log_yard.proofs.yard.Yard.fill.Goals.{then-loop-n-test+else-n-lt-MOST_LISTED, else-loop-n-test}
-
-pub loop-n-init : goal.loop-n-init
-loop-n-init g c = (
-  omega arith,
-  omega arith,
-  λ ks.
-      lists.fill_start c.args.species c.args.low c.args.high (g.S.OrderedIndex.row c.args.self.now.sizes) c.args.page.now c.in_range-next.result c.at_or_above.result
-      c.in_range-next.ensures (c.at_or_above.ensures.meaning.gives ks),
-)
 
 pub returns-in_default : goal.returns-in_default
 returns-in_default g c = λ ks.
-    let inv = c.loop-n.invariant.2 ks in
-    let left = runs c.args.species c.args.high inv.0 in (
-      (c.at_or_above.ensures.meaning.orderly ks).ascending,
-      lists.fill_done (range (g.S.OrderedIndex.row c.args.self.now.sizes) c.args.species c.args.low c.args.high) c.args.page.now c.loop-n.page left c.loop-n.n _
-          inv.3 inv.4 c.loop-n.auto.page c.loop-n.invariant.0 c.loop-n.invariant.1 (inl (lists.left_none c.loop-n.next left c.in_default.is inv.2)) (lists.left_none_test c.loop-n.next left c.in_default.is inv.2),
+    let inv = c.loop-n.invariant ks in
+    let row = g.S.OrderedIndex.row in
+    let xs = range (row c.args.self.now.sizes) c.args.species c.args.low c.args.high in
+    let rest = pairs_left size_before row c.loop-n.pairs in
+    let none = lists.no_log c.args.species c.args.high c.next.result rest (pairs_left size_before row c.next.new.self) (c.next.ensures.steps.1 (subst g.S.OrderedIndex.kept (sym inv.0) ks)) c.in_range.result c.in_range.ensures c.in_default.is in
+    let few : c.loop-n.n ≤ c.min-most.result = omega (arith, c.loop-n-test.true, length-take c.min-most.result c.args.page.now) in (
+      c.from_key-pairs.ensures.ascends ks,
+      rw set-get_or (lists.fill_done xs c.args.page.now c.loop-n.shown (runs c.args.species c.args.high rest) c.loop-n.n c.min-most.result c.loop-n.n _ refl c.min-most.ensures few c.loop-n.auto.shown inv.1 inv.2 (inl (ap length none)) (lists.none_more none)),
     )
-
-pub loop-n-preserved : goal.loop-n-preserved
-loop-n-preserved g c = (
-  omega arith,
-  simp length-set (omega arith),
-  λ ks.
-      let inv = c.loop-n.invariant.2 ks in
-      let row = g.S.OrderedIndex.row c.args.self.now.sizes in
-      lists.fill_step c.args.species c.args.high row inv.0 (range row c.args.species c.args.low c.args.high) c.args.page.now c.loop-n.page c.loop-n.n c.in-Some.log c.size_of.result c.loop-n.next c.in_range-next-in-loop-n.result c.above.result
-      inv.1 (c.at_or_above.ensures.meaning.orderly ks).ascending c.in-Some.is inv.2 inv.3 inv.4 c.loop-n-test.true c.size_of.ensures
-      c.in_range-next-in-loop-n.ensures (c.above.ensures.meaning.gives ks),
-)
 
 pub returns : goal.returns
 returns g c = λ ks.
-    let inv = c.loop-n.invariant.2 ks in
-    let left = runs c.args.species c.args.high inv.0 in
-    let why : (100 ≤ c.loop-n.n) ⊎ (length c.loop-n.page ≤ c.loop-n.n) = elim c.loop-n-test.branch [ then-loop-n-test+else-n-lt-MOST_LISTED w ↦ inl w.if-n-lt-MOST_LISTED.false | else-loop-n-test w ↦ inr w.loop-n-test.false ] in (
-      (c.at_or_above.ensures.meaning.orderly ks).ascending,
-      lists.fill_done (range (g.S.OrderedIndex.row c.args.self.now.sizes) c.args.species c.args.low c.args.high) c.args.page.now c.loop-n.page left c.loop-n.n c.is_some.result
-          inv.3 inv.4 c.loop-n.auto.page c.loop-n.invariant.0 c.loop-n.invariant.1 (inr why) (lists.left_test c.is_some.result c.loop-n.next left c.is_some.ensures inv.2),
+    let inv = c.loop-n.invariant ks in
+    let row = g.S.OrderedIndex.row in
+    let xs = range (row c.args.self.now.sizes) c.args.species c.args.low c.args.high in
+    let rest = pairs_left size_before row c.loop-n.pairs in
+    let more = lists.more_logs c.args.species c.args.high c.next-2.result rest (pairs_left size_before row c.next-2.new.self) (c.next-2.ensures.steps.1 (subst g.S.OrderedIndex.kept (sym inv.0) ks)) c.in_range-2.result c.in_range-2.ensures c.is_some.result c.is_some.ensures in
+    let whole : c.loop-n.n ≡ c.min-most.result = omega (arith, c.loop-n-test.false, c.loop-n.auto.n-end, c.min-most.ensures, length-take c.min-most.result c.args.page.now) in (
+      c.from_key-pairs.ensures.ascends ks,
+      lists.fill_done xs c.args.page.now c.loop-n.shown (runs c.args.species c.args.high rest) c.loop-n.n c.min-most.result c.min-most.result c.is_some.result (sym whole) c.min-most.ensures (omega (arith, whole)) c.loop-n.auto.shown inv.1 inv.2 (inr (omega (arith, whole))) more,
     )

@@ -9,4 +9,5 @@ returns g c = record {
       lists.list_ok g.T.OrderedIndex g.S.OrderedIndex cap ls h c.args.self.now told (c.fill-count.ensures ks).0 c.args.species c.args.low c.args.high
       c.args.page.now c.fill-count.new.page c.fill-count.result (search rules) (search rules) (c.fill-count.ensures ks).1;
   still = tt;
+  page = tt;
 }
