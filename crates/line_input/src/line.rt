@@ -1,4 +1,4 @@
-ghost use Rattle.std.specs.Prelude.{◌≡◌, ◌≤◌, List, [], ◌++◌, length, take};
+ghost use Rattle.std.specs.Prelude.{◌≡◌, ◌≤◌, ◌==◌, List, [], ◌++◌, length, position, take};
 ghost use Rattle.line_input.specs.Lines.{up_to_end, after_end, kept};
 
 const KEPT: usize = 201;
@@ -11,17 +11,11 @@ pub struct LineBuffer {
     ghost within: { len ≤ 201 },
 }
 
-// How many bytes stand before the end of the line.
-fn count_to_end(chunk: &[u8]) -> usize
-    ensures gives { result ≡ length (up_to_end chunk.now) }
-    ensures within { result ≤ length chunk.now }
+// Where the end of the line stands in the chunk.
+fn end_of_line(chunk: &[u8]) -> Option<usize>
+    ensures { result ≡ position (λ b. b == 10) chunk.now }
 {
-    for (i, b) in chunk.iter().enumerate() {
-        if *b == b'\n' {
-            return i;
-        }
-    }
-    chunk.len()
+    chunk.iter().position(|b| *b == b'\n')
 }
 
 impl LineBuffer {
@@ -50,19 +44,17 @@ impl LineBuffer {
 
     // Adds the bytes of the chunk up to the end of the line. Gives how many bytes of the chunk the line has used,
     // its end included, or none if the line goes on after the chunk.
+    #[tactic(auto, using(crate::proofs::Ends::after_end_is))]
     pub fn push(&mut self, chunk: &[u8]) -> Option<usize>
         ensures gives { result ≡ after_end chunk.now }
         ensures keeps { take self.new.len self.new.bytes ≡ kept (take self.old.len self.old.bytes ++ up_to_end chunk.now) }
     {
-        let end = count_to_end(chunk);
+        let end = end_of_line(chunk);
+        let line = &chunk[..end.unwrap_or(chunk.len())];
         let start = self.len;
-        let n = end.min(KEPT - start);
-        self.bytes[start..start + n].copy_from_slice(&chunk[0..n]);
+        let n = line.len().min(KEPT - start);
+        self.bytes[start..start + n].copy_from_slice(&line[..n]);
         self.len = start + n;
-        if end < chunk.len() {
-            Some(end + 1)
-        } else {
-            None
-        }
+        end.map(|end| end + 1)
     }
 }

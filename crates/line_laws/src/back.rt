@@ -10,8 +10,6 @@ pub fn reread(log: Log) -> Result<Request, Refused>
     ensures law { ReadsBack }
 {
     let mut row = [0u8; ROW];
-    match write_log(&mut row, log) {
-        Ok(n) => read_request(&row[0..n - 1]),
-        Err(_) => unreachable(),
-    }
+    let n = write_log(&mut row, log).unwrap();
+    read_request(&row[0..n - 1])
 }

@@ -1,4 +1,2 @@
 pub mod Asked
 pub mod Figures
-pub mod Marks
-pub mod Pieces

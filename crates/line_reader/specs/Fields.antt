@@ -1,5 +1,6 @@
 -- The fields of a line, and what a field says.
 use Rattle.std.specs.Prelude.{ℕ, ◌+◌, ◌-◌, ◌*◌, Bool, cond, not, ◌&&◌, ◌||◌, List, [], ◌∷◌, length, Some, None, codes, Option, ◌==◌, nat_le, slice_index}
+use Rattle.std.specs.List.{slice_split}
 use Rattle.std.specs.Str.{bytes_eq}
 use Rattle.logs.specs.declared.species.Species.{Species}
 use Rattle.logs.specs.declared.log.Place.{Place}
@@ -8,15 +9,9 @@ use Rattle.logs.specs.Codes.{species_of}
 use Rattle.line_reader.specs.declared.request.Word.{Word}
 use Rattle.line_reader.specs.declared.request.Word.TheVariants as word
 
--- a byte put in front of the first field
-abbrev pub onto : ℕ → List (List ℕ) → List (List ℕ)
-onto b [] = (b ∷ []) ∷ []
-onto b (f ∷ fs) = (b ∷ f) ∷ fs
-
 -- The fields of a line, parted by single tabs (9): one more than it has tabs.
 abbrev pub fields : List ℕ → List (List ℕ)
-fields [] = [] ∷ []
-fields (b ∷ bs) = cond (b == 9) ([] ∷ fields bs) (onto b (fields bs))
+fields line = slice_split (λ b. b == 9) line
 
 -- what stands beside a name in a table
 abbrev pub named : {X : Type 0} → List (List ℕ × X) → List ℕ → Option X

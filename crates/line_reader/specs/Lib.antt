@@ -1,4 +1,3 @@
 pub mod Fields
 pub mod Reads
 pub mod Reasons
-pub mod Starts

@@ -1,5 +1,4 @@
 ghost use Rattle.std.specs.Prelude.{◌≡◌, ℕ, ◌≤◌, IfOk};
-ghost use Rattle.line_reader.specs.Fields.{fields};
 ghost use Rattle.line_reader.specs.Reads.{within, drafted, fitted};
 
 use crate::fields::Fields;
@@ -30,7 +29,7 @@ pub struct Draft {
 
 impl Draft {
     pub(crate) fn read(line: &Fields) -> Result<Draft, Refused>
-        ensures { result ≡ drafted (fields line.now.line.now) }
+        ensures { result ≡ drafted line.now }
     {
         let tag = line.number(1)?;
         let species = line.letter(2)?;

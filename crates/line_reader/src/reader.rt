@@ -1,5 +1,4 @@
 ghost use Rattle.std.specs.Prelude.{◌≡◌, ℕ, ◌+◌, ◌<◌, ◌≤◌};
-ghost use Rattle.line_reader.specs.Fields.{fields};
 ghost use Rattle.line_reader.specs.Reads.{reads, asks, arity, tagged, sized};
 
 use crate::draft::{Draft, check};
@@ -11,13 +10,13 @@ use logs::{Call, Limits, Log, Rest, Species};
 const LONGEST: usize = 200;
 
 fn read_tag(line: &Fields) -> Result<u32, Refused>
-    ensures { result ≡ tagged (fields line.now.line.now) }
+    ensures { result ≡ tagged line.now }
 {
     check(Limits::TAG, line.number(1)?, 1)
 }
 
 fn read_log(line: &Fields) -> Result<Request, Refused>
-    ensures { result ≡ asks Word.Log (fields line.now.line.now) }
+    ensures { result ≡ asks Word.Log line.now }
 {
     let draft = Draft::read(line)?;
     let place = line.place(6)?;
@@ -29,7 +28,7 @@ fn read_log(line: &Fields) -> Result<Request, Refused>
 }
 
 fn read_arrive(line: &Fields) -> Result<Request, Refused>
-    ensures { result ≡ asks Word.Arrive (fields line.now.line.now) }
+    ensures { result ≡ asks Word.Arrive line.now }
 {
     let (tag, body) = Draft::read(line)?.fit()?;
     Ok(Request::Call(Call::Arrive(tag, body)))
@@ -38,7 +37,7 @@ fn read_arrive(line: &Fields) -> Result<Request, Refused>
 // A species, a diameter, and a third field with limits of its own.
 fn read_sizes(line: &Fields, third: Limits) -> Result<(Species, u16, u16), Refused>
     requires { third.high < 65536 }
-    ensures { result ≡ sized third (fields line.now.line.now) }
+    ensures { result ≡ sized third line.now }
 {
     let species = line.letter(1)?;
     let d = line.number(2)?;
@@ -49,14 +48,14 @@ fn read_sizes(line: &Fields, third: Limits) -> Result<(Species, u16, u16), Refus
 }
 
 fn read_call(line: &Fields) -> Result<Request, Refused>
-    ensures { result ≡ asks Word.Call (fields line.now.line.now) }
+    ensures { result ≡ asks Word.Call line.now }
 {
     let (species, diameter, length) = read_sizes(line, Limits::LENGTH)?;
     Ok(Request::Call(Call::Call(species, diameter, length)))
 }
 
 fn read_list(line: &Fields) -> Result<Request, Refused>
-    ensures { result ≡ asks Word.List (fields line.now.line.now) }
+    ensures { result ≡ asks Word.List line.now }
 {
     let (species, low, high) = read_sizes(line, Limits::DIAMETER)?;
     if low <= high {
@@ -80,7 +79,7 @@ fn fields_after(word: Word) -> usize
 }
 
 fn read_fields(word: Word, line: &Fields) -> Result<Request, Refused>
-    ensures { result ≡ asks word (fields line.now.line.now) }
+    ensures { result ≡ asks word line.now }
 {
     match word {
         Word::Log => read_log(line),
@@ -103,9 +102,7 @@ pub fn read_request(line: &[u8]) -> Result<Request, Refused>
         return Err(Refused::at(Reason::LongLine, 0));
     }
     let fields = Fields::split(line);
-    let Some(word) = fields.word() else {
-        return Err(Refused::at(Reason::UnknownWord, 0));
-    };
+    let word = fields.word().ok_or(Refused::at(Reason::UnknownWord, 0))?;
     if fields.count() != 1 + fields_after(word) {
         return Err(Refused::at(Reason::FieldCount, 0));
     }

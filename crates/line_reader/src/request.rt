@@ -4,7 +4,7 @@ ghost use Rattle.line_reader.specs.Reasons.{reason_number, refusal};
 use logs::{Call, Log};
 
 // The first field of a line.
-#[derive(Clone, Copy)]
+#[derive(Clone, Copy, Debug, PartialEq, Eq)]
 pub enum Word {
     Log,
     Open,
@@ -18,26 +18,26 @@ pub enum Word {
 }
 
 // What a line asks for.
-#[derive(Clone, Copy)]
+#[derive(Clone, Copy, Debug, PartialEq, Eq)]
 pub enum Request {
     Log(Log),
     Open,
     Call(Call),
 }
 
-// Why a line asks for nothing.
-#[derive(Clone, Copy)]
+// Why a line asks for nothing, with its number.
+#[derive(Clone, Copy, Debug, PartialEq, Eq)]
 pub enum Reason {
-    LongLine,
-    UnknownWord,
-    FieldCount,
-    Unread,
-    Outside,
-    Reversed,
+    LongLine = 10,
+    UnknownWord = 11,
+    FieldCount = 12,
+    Unread = 13,
+    Outside = 14,
+    Reversed = 15,
 }
 
 // A refusal of a line, and the field that it is about, the word being 0.
-#[derive(Clone, Copy)]
+#[derive(Clone, Copy, Debug, PartialEq, Eq)]
 pub struct Refused {
     pub reason: Reason,
     pub field: u8,
@@ -53,14 +53,7 @@ impl Refused {
     pub fn number(self) -> u8
         ensures { result ≡ reason_number self.reason }
     {
-        match self.reason {
-            Reason::LongLine => 10,
-            Reason::UnknownWord => 11,
-            Reason::FieldCount => 12,
-            Reason::Unread => 13,
-            Reason::Outside => 14,
-            Reason::Reversed => 15,
-        }
+        self.reason as u8
     }
 
     pub fn position(self) -> u8

@@ -5,15 +5,14 @@
 #[cfg(test)]
 mod tests {
     use line_reader::read_request;
-    use line_writer::{ROW, write_list, write_no, write_ok, write_open};
+    use line_writer::{ROW, ShortRow, write_list, write_no, write_ok, write_open};
     use logs::{Body, Log, Place, Rest, Species};
 
     // The number and the position of the refusal, or 0 twice.
     fn refusal(line: &[u8]) -> (u8, u8) {
-        match read_request(line) {
-            Ok(_) => (0, 0),
-            Err(refused) => (refused.number(), refused.position()),
-        }
+        read_request(line)
+            .err()
+            .map_or((0, 0), |refused| (refused.number(), refused.position()))
     }
 
     #[test]
@@ -43,10 +42,9 @@ mod tests {
     #[test]
     fn answers_are_lines(rt: HostRuntime) {
         let mut row = [0u8; ROW];
-        let written = write_no(&mut row, 14, 3).ok().unwrap_or(0);
-        assert_eq!(rt; written, 8);
+        assert_eq!(rt; write_no(&mut row, 14, 3), Ok(8));
         assert_eq!(rt; &row[0..9], b"NO\t14\t3\n\0".as_slice());
-        assert!(rt; write_ok(&mut [0u8; 8], 7).is_err());
+        assert_eq!(rt; write_ok(&mut [0u8; 8], 7), Err(ShortRow {}));
     }
 
     const LARGEST: Log = Log {
@@ -65,24 +63,19 @@ mod tests {
     #[test]
     fn lists_end_with_their_number(rt: HostRuntime) {
         let mut row = [0u8; ROW];
-        let written = write_list(&mut row, &[LARGEST], true).ok().unwrap_or(0);
-        assert_eq!(rt; written, 43);
+        assert_eq!(rt; write_list(&mut row, &[LARGEST], true), Ok(43));
         assert_eq!(rt;
             &row[0..35],
             b"LOG\t4294967295\tD\t1200\t1500\t200\tSAW\n".as_slice()
         );
         assert_eq!(rt; &row[35..44], b"END\t1\t1\n\0".as_slice());
-        let written = write_list(&mut row, &[LARGEST; 101], false)
-            .ok()
-            .unwrap_or(0);
-        assert_eq!(rt; written, 3510);
+        assert_eq!(rt; write_list(&mut row, &[LARGEST; 101], false), Ok(3510));
     }
 
     #[test]
     fn open_tells_the_logs_present(rt: HostRuntime) {
         let mut row = [0u8; ROW];
-        let written = write_open(&mut row, 240).ok().unwrap_or(0);
-        assert_eq!(rt; written, 9);
+        assert_eq!(rt; write_open(&mut row, 240), Ok(9));
         assert_eq!(rt; &row[0..10], b"OPEN\t240\n\0".as_slice());
     }
 }

@@ -6,12 +6,18 @@ use Rattle.logs.specs.declared.log.Place.{Place}
 use Rattle.logs.specs.declared.log.Place.TheVariants.{Standing, AtSaw}
 use Rattle.logs.specs.Codes.{letter_of}
 use Rattle.line_writer.specs.declared.answers.ShortRow.{ShortRow}
+use Rattle.line_writer.specs.declared.row.Row.{Row}
 
 -- The new row has the bytes from a place on, and is as the old one before and after them.
 pub record Written (at : ℕ) (bytes old new : List ℕ) (to : ℕ) : Type 0 where
   pub row : new ≡ take at old ++ (bytes ++ drop to old)
   pub ends : to ≡ at + length bytes
   pub room : to ≤ length old
+
+-- The same over one row: the bytes are added at its place, which is after them then.
+pub record Added (bytes : List ℕ) (old new : Row) : Type 0 where
+  pub same : new.out.ghost_name ≡ old.out.ghost_name
+  pub written : Written old.at bytes old.out.now new.out.now new.at
 
 -- the number of the refusal of a short row
 abbrev pub short_number : ℕ

@@ -1,8 +1,7 @@
-ghost use Rattle.std.specs.Prelude.{◌≡◌, ℕ, ◌<◌, ◌≤◌, List, length, take};
+ghost use Rattle.std.specs.Prelude.{◌≡◌, ℕ, ◌<◌, ◌≤◌, length, take, MatchResult};
 ghost use Rattle.line_writer.specs.Shows.{Answered, ok_line, no_line, open_line, log_line, list_lines, short_number};
 
-use crate::log_lines::{put_log, put_logs};
-use crate::parts::{put_count, put_field, put_small, put_tag};
+use crate::row::Row;
 use logs::Log;
 
 // The bytes of a row that holds every answer.
@@ -12,7 +11,7 @@ pub const ROW: usize = 4096;
 const MOST_LISTED: usize = 100;
 
 // The row for the answer is shorter than that, and nothing was written into it.
-#[derive(Clone, Copy)]
+#[derive(Clone, Copy, Debug, PartialEq, Eq)]
 pub struct ShortRow {}
 
 impl ShortRow {
@@ -23,57 +22,67 @@ impl ShortRow {
     }
 }
 
-pub fn write_ok(out: &mut [u8], tag: u32) -> Result<usize, ShortRow>
-    ensures { Answered (ok_line tag) out.old result out.new }
+// Refuses a row that is too short.
+fn check_row(out: &[u8]) -> Result<(), ShortRow>
+    ensures { MatchResult result (λ _. 4096 ≤ length out.now) (λ _. length out.now < 4096) }
 {
     if out.len() < ROW {
         return Err(ShortRow {});
     }
-    let a = put_field(out, 0, b"OK", b'\t');
-    Ok(put_tag(out, a, tag, b'\n'))
+    Ok(())
+}
+
+pub fn write_ok(out: &mut [u8], tag: u32) -> Result<usize, ShortRow>
+    ensures { Answered (ok_line tag) out.old result out.new }
+{
+    check_row(out)?;
+    let mut row = Row::begin(out);
+    row.field(b"OK", b'\t');
+    row.number(tag, b'\n');
+    Ok(row.written())
 }
 
 pub fn write_no(out: &mut [u8], number: u8, position: u8) -> Result<usize, ShortRow>
     ensures { Answered (no_line number position) out.old result out.new }
 {
-    if out.len() < ROW {
-        return Err(ShortRow {});
-    }
-    let a = put_field(out, 0, b"NO", b'\t');
-    let b = put_small(out, a, number, b'\t');
-    Ok(put_small(out, b, position, b'\n'))
+    check_row(out)?;
+    let mut row = Row::begin(out);
+    row.field(b"NO", b'\t');
+    row.number(number, b'\t');
+    row.number(position, b'\n');
+    Ok(row.written())
 }
 
 // So many logs are present in the yard that was opened.
 pub fn write_open(out: &mut [u8], count: usize) -> Result<usize, ShortRow>
     ensures { Answered (open_line count) out.old result out.new }
 {
-    if out.len() < ROW {
-        return Err(ShortRow {});
-    }
-    let a = put_field(out, 0, b"OPEN", b'\t');
-    Ok(put_count(out, a, count, b'\n'))
+    check_row(out)?;
+    let mut row = Row::begin(out);
+    row.field(b"OPEN", b'\t');
+    row.number(count, b'\n');
+    Ok(row.written())
 }
 
 pub fn write_log(out: &mut [u8], log: Log) -> Result<usize, ShortRow>
     ensures { Answered (log_line log) out.old result out.new }
 {
-    if out.len() < ROW {
-        return Err(ShortRow {});
-    }
-    Ok(put_log(out, 0, log))
+    check_row(out)?;
+    let mut row = Row::begin(out);
+    row.log(log);
+    Ok(row.written())
 }
 
 // Writes the first hundred logs at most: 3,813 bytes with the line that ends them.
 pub fn write_list(out: &mut [u8], logs: &[Log], more: bool) -> Result<usize, ShortRow>
     ensures { Answered (list_lines (take 100 logs.now) more) out.old result out.new }
 {
-    if out.len() < ROW {
-        return Err(ShortRow {});
-    }
-    let n = logs.len().min(MOST_LISTED);
-    let a = put_logs(out, &logs[0..n]);
-    let b = put_field(out, a, b"END", b'\t');
-    let c = put_small(out, b, n as u8, b'\t');
-    Ok(put_small(out, c, u8::from(more), b'\n'))
+    check_row(out)?;
+    let listed = &logs[..MOST_LISTED.min(logs.len())];
+    let mut row = Row::begin(out);
+    row.logs(listed);
+    row.field(b"END", b'\t');
+    row.number(listed.len(), b'\t');
+    row.number(u8::from(more), b'\n');
+    Ok(row.written())
 }

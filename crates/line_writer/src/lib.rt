@@ -2,7 +2,6 @@
 #![tactic(auto)]
 
 mod answers;
-mod log_lines;
-mod parts;
+mod row;
 
 pub use answers::{ROW, ShortRow, write_list, write_log, write_no, write_ok, write_open};

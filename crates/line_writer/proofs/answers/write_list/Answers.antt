@@ -1,16 +1,11 @@
-use Rattle.std.proofs.Common.{ℕ, decimal, ap, ◌∙◌, arith}
-use Rattle.std.specs.List.{flat_map}
-use Rattle.line_writer.specs.Shows.{log_line, tabbed, ended}
-use Rattle.line_writer.proofs.Writes.{◌and◌, under, hundred, hundred_counted, flag}
+use Rattle.std.proofs.Common.{◌≡◌, take, ap, ◌∙◌, arith, rules}
+use Rattle.std.proofs.lemmas.List.{take_min}
+use Rattle.line_writer.specs.Shows.{Added, list_lines}
+use Rattle.line_writer.proofs.Writes.{◌and◌, flag}
 use Rattle.line_writer.proofs.answers.write_list.Goals as goal
 
 pub returns : goal.returns
 returns c =
-    let logs = c.args.logs.now in
-    let n = c.min-n.result in (
-      omega arith,
-      under (ap (flat_map log_line) (hundred logs n c.min-n.ensures)) c.put_logs-a.ensures.writes
-          and c.put_field-b.ensures.writes
-          and under (ap (λ (k : ℕ). tabbed (decimal k)) (hundred_counted logs n c.min-n.ensures)) c.put_small-c.ensures.writes
-          and under (ap (λ (k : ℕ). ended (decimal k)) (c.from.ensures ∙ flag c.args.more)) c.put_small.ensures.writes,
-    )
+    let listed : take c.min.result c.args.logs.now ≡ take 100 c.args.logs.now = ap (λ n. take n c.args.logs.now) c.min.ensures ∙ take_min 100 c.args.logs.now in
+    let all : Added (list_lines (take 100 c.args.logs.now) c.args.more) c.begin-row.result c.number-2.new.self = rw (← listed, ← flag c.args.more, ← c.from.ensures) (c.logs.ensures.adds and c.field.ensures.adds and c.number.ensures.adds and c.number-2.ensures.adds) in
+    (omega arith, search rules)

@@ -1,6 +1,6 @@
-use Rattle.std.proofs.Common.{arith}
+use Rattle.std.proofs.Common.{arith, rules}
 use Rattle.line_writer.proofs.Writes.{◌and◌}
 use Rattle.line_writer.proofs.answers.write_open.Goals as goal
 
 pub returns : goal.returns
-returns c = (omega arith, c.put_field-a.ensures.writes and c.put_count.ensures.writes)
+returns c = let all = c.field.ensures.adds and c.number.ensures.adds in (omega arith, search rules)
