@@ -1,7 +1,5 @@
--- A call that the yard refuses, and the page of a reply.
-use Rattle.std.proofs.Common.{◌≡◌, ℕ, ◌-◌, ◌<◌, ◌≤◌, min, List, length, take, Ok, Err, Result, sym, ap, ◌∙◌, subst, ⊎_elim, arith}
-use Rattle.std.proofs.lemmas.List.{take_all, length-take}
-use Rattle.std.proofs.lemmas.Bool.{cases_lt}
+-- A call that the yard refuses.
+use Rattle.std.proofs.Common.{◌≡◌, ℕ, ◌≤◌, List, Ok, Err, Result, sym, subst}
 use Rattle.ordered.specs.declared.index.OrderedIndex.{Ghosts}
 use Rattle.logs.specs.declared.call.Call.{Call}
 use Rattle.logs.specs.declared.keys.Size.{Size}
@@ -16,20 +14,11 @@ use Rattle.log_yard.specs.Tells.{Obeys}
 use Rattle.line_reader.specs.declared.request.Request.TheVariants as request
 use Rattle.line_reader.specs.Reads.{reads}
 use Rattle.day_desk.specs.declared.open_desk.OpenDesk.{OpenDesk}
-use Rattle.day_desk.specs.declared.refusal.Refusal.{Refusal}
-use Rattle.day_desk.specs.declared.refusal.Refusal.TheVariants as refusal
-use Rattle.day_desk.specs.declared.reply.Reply.{Reply}
+use Rattle.yard_desk.specs.declared.refusal.Refusal.{Refusal}
+use Rattle.yard_desk.specs.declared.refusal.Refusal.TheVariants as refusal
+use Rattle.yard_desk.specs.declared.reply.Reply.{Reply}
 use Rattle.day_desk.specs.Open.{Asked, Serves}
 use Rattle.day_desk.proofs.Limits.{read_within, state_only}
-
--- the listed part of a page
-pub listed : (page : List Log) (n k : ℕ) → length page ≤ 100 → k ≡ min n (length page) → take 100 (take (k - 0) page) ≡ take n page
-listed page n k l e =
-    take_all 100 (take (k - 0) page) (omega (arith, length-take (k - 0) page))
-    ∙ ⊎_elim
-    (λ (h : n < length page). let z : k - 0 ≡ n = omega arith in ap (λ (m : ℕ). take m page) z)
-    (λ (h : length page ≤ n). take_all (k - 0) page (omega arith) ∙ sym (take_all n page h))
-    (cases_lt n (length page))
 
 same_error : (e f : YardRefusal) → ◌≡◌ {A = Result Answer YardRefusal} (Err e) (Err f) → 21 ≤ refusal_number e → 21 ≤ refusal_number f
 same_error e f p h = let q : e ≡ f = cc in subst (λ x. 21 ≤ refusal_number x) q h

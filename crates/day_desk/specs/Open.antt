@@ -1,5 +1,5 @@
 -- What an open desk answers to a line: the yard's law, carried to the bytes.
-use Rattle.std.specs.Prelude.{◌≡◌, ℕ, ◌<◌, ◌≤◌, List, length, Ok, Err, Result}
+use Rattle.std.specs.Prelude.{◌≡◌, ℕ, ◌≤◌, List, Ok, Err, Result}
 use Rattle.ordered.specs.declared.index.OrderedIndex.{Ghosts}
 use Rattle.logs.specs.declared.call.Call.{Call}
 use Rattle.logs.specs.declared.call.Call.TheVariants as call
@@ -18,14 +18,11 @@ use Rattle.log_yard.specs.Tells.{Tells, Obeys, Stays}
 use Rattle.line_reader.specs.declared.request.Request.{Request}
 use Rattle.line_reader.specs.declared.request.Request.TheVariants as request
 use Rattle.line_reader.specs.Reads.{Read, reads}
-use Rattle.line_writer.specs.declared.answers.ShortRow.{ShortRow}
-use Rattle.line_writer.specs.Shows.{Written}
 use Rattle.day_desk.specs.declared.open_desk.OpenDesk.{OpenDesk}
-use Rattle.day_desk.specs.declared.refusal.Refusal.{Refusal}
-use Rattle.day_desk.specs.declared.refusal.Refusal.TheVariants.{Line, AlreadyOpen, Yard}
-use Rattle.day_desk.specs.declared.reply.Reply.{Reply}
-use Rattle.day_desk.specs.declared.reply.Reply.TheVariants.{Done, Found, Listed}
-use Rattle.day_desk.specs.Replies.{reply_line}
+use Rattle.yard_desk.specs.declared.refusal.Refusal.{Refusal}
+use Rattle.yard_desk.specs.declared.refusal.Refusal.TheVariants.{Line, AlreadyOpen, Yard}
+use Rattle.yard_desk.specs.declared.reply.Reply.{Reply}
+use Rattle.yard_desk.specs.declared.reply.Reply.TheVariants.{Done, Found, Listed}
 
 -- what stands in a page before the first LIST
 abbrev pub no_log : Log
@@ -70,8 +67,3 @@ module _ {T S : Type 0} (t : Ghosts T Tag Rest) (s : Ghosts S Size ℕ) where
 
   abbrev pub Serves : OpenDesk T S → List ℕ → Result Reply Refusal → OpenDesk T S → Type 0
   Serves d line r d' = Asked d (reads line) r d'
-
-  -- A row of under 4,096 bytes is refused, and nothing changes; else the row begins with the bytes of the reply to the line.
-  abbrev pub Answers : OpenDesk T S → List ℕ → List ℕ → Result ℕ ShortRow → List ℕ → OpenDesk T S → Type 0
-  Answers d line old (Err e) new d' = (length old < 4096) × (new ≡ old) × (d' ≡ d)
-  Answers d line old (Ok n) new d' = (4096 ≤ length old) × ((r : Result Reply Refusal) × Serves d line r d' × Written 0 (reply_line d'.page r) old new n)

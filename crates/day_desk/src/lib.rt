@@ -1,15 +1,10 @@
-// The desk that answers a yard's lines: it reads a line, does what it asks for and writes the answer.
+// The desk for a whole day: a desk that loads logs and can be opened, and the desk over the open yard.
 #![tactic(auto)]
 
-mod loading;
-mod loading_desk;
 mod open_desk;
 mod opening;
-mod refusal;
-mod reply;
+mod opening_desk;
 
-pub use loading::{Answered, SIZE_SLOTS, TAG_SLOTS};
-pub use loading_desk::LoadingDesk;
 pub use open_desk::OpenDesk;
-pub use refusal::Refusal;
-pub use reply::Reply;
+pub use opening::{SIZE_SLOTS, TAG_SLOTS};
+pub use opening_desk::OpeningDesk;

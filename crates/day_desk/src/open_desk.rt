@@ -1,13 +1,11 @@
-ghost use Rattle.std.specs.Prelude.{◌≡◌, ◌≤◌, length, replicate, IfOk};
-ghost use Rattle.day_desk.specs.Open.{tag_of, reply_to, Serves, Answers, no_log};
+ghost use Rattle.std.specs.Prelude.{◌≡◌, replicate};
+ghost use Rattle.day_desk.specs.Open.{tag_of, reply_to, Serves, no_log};
 
-use crate::reply::write_reply;
-use crate::{Refusal, Reply};
 use line_reader::{Request, read_request};
-use line_writer::{ROW, ShortRow};
 use log_yard::{Answer, Yard};
 use logs::{Body, Call, Log, Place, Rest, Size, Species, Tag};
 use ordered::OrderedIndex;
+use yard_desk::{Desk, Refusal, Reply};
 
 // The page of a LIST line.
 const PAGE: usize = 100;
@@ -64,11 +62,18 @@ impl<T: OrderedIndex<Tag, Rest>, S: OrderedIndex<Size, u8>> OpenDesk<T, S> {
             page: [NO_LOG; PAGE],
         }
     }
+}
 
-    // Does what the line asks for.
-    fn serve(&mut self, line: &[u8]) -> Result<Reply, Refusal>
-        ensures { Serves T.OrderedIndex S.OrderedIndex self.old line.now result self.new }
-    {
+impl<T: OrderedIndex<Tag, Rest>, S: OrderedIndex<Size, u8>> Desk for OpenDesk<T, S> {
+    ghost page = { λ d. d.page };
+
+    ghost serves = { Serves T.OrderedIndex S.OrderedIndex };
+
+    fn page(&self) -> &[Log] {
+        &self.page
+    }
+
+    fn serve(&mut self, line: &[u8]) -> Result<Reply, Refusal> {
         match read_request(line)? {
             Request::Log(_) => Err(Refusal::AlreadyOpen),
             Request::Open => Err(Refusal::AlreadyOpen),
@@ -77,17 +82,5 @@ impl<T: OrderedIndex<Tag, Rest>, S: OrderedIndex<Size, u8>> OpenDesk<T, S> {
                 Ok(reply_to(call, answer))
             }
         }
-    }
-
-    // Answers the line at the start of the row, and gives the length of the answer.
-    pub fn answer(&mut self, line: &[u8], out: &mut [u8]) -> Result<usize, ShortRow>
-        ensures says { Answers T.OrderedIndex S.OrderedIndex self.old line.now out.old result out.new self.new }
-        ensures within { IfOk result (λ n. n ≤ length out.old) }
-    {
-        if out.len() < ROW {
-            return Err(ShortRow {});
-        }
-        let reply = self.serve(line);
-        write_reply(out, reply, &self.page)
     }
 }

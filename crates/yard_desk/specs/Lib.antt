@@ -1,2 +1,4 @@
+pub mod Desks
 pub mod Loading
 pub mod Refusals
+pub mod Replies

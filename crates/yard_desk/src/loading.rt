@@ -1,56 +1,63 @@
-ghost use Rattle.std.specs.Prelude.{◌≡◌, ◌≤◌, length, IfOk};
+ghost use Rattle.std.specs.Prelude.{◌≡◌, [], Ok, length};
 ghost use Rattle.array_tree.specs.Trees.{Made};
-ghost use Rattle.logs.specs.Orders.{tag_before};
-ghost use Rattle.yard_desk.specs.Loading.{Loads, Answers};
+ghost use Rattle.yard_desk.specs.Loading.{Asked, Serves, loaded};
 
-use crate::Refusal;
+use crate::{Desk, LoadingDesk, Refusal, Reply};
 use array_tree::FillingTree;
 use line_reader::{Request, read_request};
-use line_writer::{ROW, ShortRow, write_no, write_ok};
-use logs::{Rest, Tag};
+use logs::{Log, Rest, Tag};
 use ordered::Slot;
-
-// A yard that is not open yet: its logs are loaded in the order of their tags.
-#[derive(Drop)]
-pub struct LoadingDesk<'a> {
-    tags: FillingTree<'a, Tag, Rest>,
-}
 
 impl<'a> LoadingDesk<'a> {
     // A desk with no log loaded, over the slots of the tag tree.
     pub fn over(slots: &'a mut [Slot<Tag, Rest>]) -> LoadingDesk<'a>
-        ensures { Made tag_before 15 slots.old result.tags }
+        ensures { Made slots.old result.tags }
     {
         LoadingDesk {
             tags: FillingTree::over(slots),
         }
     }
 
-    // Loads the log that the line says, and gives its tag.
-    fn load(&mut self, line: &[u8]) -> Result<u32, Refusal>
-        ensures { Loads self.old line.now result self.new }
+    // How many logs are loaded.
+    pub fn count(&self) -> usize
+        ensures { result ≡ length (loaded self.now) }
     {
-        match read_request(line)? {
+        self.tags.count()
+    }
+
+    // Loads the log of a LOG line. Every other line asks for an open yard.
+    pub fn load(&mut self, request: Request) -> Result<Reply, Refusal>
+        ensures { Asked self.old (Ok request) result self.new }
+    {
+        match request {
             Request::Log(log) => {
                 self.tags.feed(Tag(log.tag), log.rest)?;
-                Ok(log.tag)
+                Ok(Reply::Done(log.tag))
             }
             Request::Open => Err(Refusal::NotOpen),
             Request::Call(_) => Err(Refusal::NotOpen),
         }
     }
 
-    // Answers the line at the start of the row, and gives the length of the answer.
-    pub fn answer(&mut self, line: &[u8], out: &mut [u8]) -> Result<usize, ShortRow>
-        ensures says { Answers self.old line.now out.old result out.new self.new }
-        ensures within { IfOk result (λ n. n ≤ length out.old) }
+    // The tree with the loaded logs.
+    pub fn into_tree(self) -> FillingTree<'a, Tag, Rest>
+        ensures { result ≡ self.entry.tags }
     {
-        if out.len() < ROW {
-            return Err(ShortRow {});
-        }
-        match self.load(line) {
-            Ok(tag) => write_ok(out, tag),
-            Err(refusal) => write_no(out, refusal.number(), refusal.position()),
-        }
+        let LoadingDesk { tags } = self;
+        tags
+    }
+}
+
+impl<'a> Desk for LoadingDesk<'a> {
+    ghost page = { λ _. [] };
+
+    ghost serves = { Serves };
+
+    fn page(&self) -> &[Log] {
+        &[]
+    }
+
+    fn serve(&mut self, line: &[u8]) -> Result<Reply, Refusal> {
+        self.load(read_request(line)?)
     }
 }

@@ -1,5 +1,5 @@
 ghost use Rattle.std.specs.Prelude.{◌≡◌};
-ghost use Rattle.yard_desk.specs.declared.refusal.Refusal.TheVariants.{Line, Load};
+ghost use Rattle.yard_desk.specs.declared.refusal.Refusal.TheVariants.{Line, Load, Yard};
 ghost use Rattle.yard_desk.specs.Refusals.{refusal_number, refusal_position};
 
 use line_reader::Refused;
@@ -10,7 +10,9 @@ use ordered::Fault;
 pub enum Refusal {
     Line(Refused),
     NotOpen,
+    AlreadyOpen,
     Load(Fault),
+    Yard(log_yard::Refusal),
 }
 
 impl From<Refused> for Refusal {
@@ -29,6 +31,14 @@ impl From<Fault> for Refusal {
     }
 }
 
+impl From<log_yard::Refusal> for Refusal {
+    ghost from_gives = { λ e r. r ≡ Yard e };
+
+    fn from(why: log_yard::Refusal) -> Refusal {
+        Refusal::Yard(why)
+    }
+}
+
 impl Refusal {
     pub fn number(self) -> u8
         ensures { result ≡ refusal_number self }
@@ -36,7 +46,9 @@ impl Refusal {
         match self {
             Refusal::Line(refused) => refused.number(),
             Refusal::NotOpen => 20,
+            Refusal::AlreadyOpen => 27,
             Refusal::Load(fault) => fault.number(),
+            Refusal::Yard(refusal) => refusal.number(),
         }
     }
 
@@ -46,8 +58,9 @@ impl Refusal {
     {
         match self {
             Refusal::Line(refused) => refused.position(),
-            Refusal::NotOpen => 0,
+            Refusal::NotOpen | Refusal::AlreadyOpen => 0,
             Refusal::Load(_) => 0,
+            Refusal::Yard(_) => 0,
         }
     }
 }

@@ -4,4 +4,4 @@
 mod input;
 mod serving;
 
-pub use serving::serve;
+pub use serving::{load, serve};

@@ -2,10 +2,10 @@
 use Rattle.std.specs.Prelude.{ℕ, List, take, Ok, Err, Result}
 use Rattle.logs.specs.declared.log.Log.{Log}
 use Rattle.line_writer.specs.Shows.{ok_line, no_line, open_line, log_line, list_lines}
-use Rattle.day_desk.specs.declared.reply.Reply.{Reply}
-use Rattle.day_desk.specs.declared.reply.Reply.TheVariants.{Done, Found, Listed, Opened}
-use Rattle.day_desk.specs.declared.refusal.Refusal.{Refusal}
-use Rattle.day_desk.specs.Refusals.{refusal_number, refusal_position}
+use Rattle.yard_desk.specs.declared.reply.Reply.{Reply}
+use Rattle.yard_desk.specs.declared.reply.Reply.TheVariants.{Done, Found, Listed, Opened}
+use Rattle.yard_desk.specs.declared.refusal.Refusal.{Refusal}
+use Rattle.yard_desk.specs.Refusals.{refusal_number, refusal_position}
 
 -- by cases of the reply, with the page that it leaves
 abbrev pub reply_line : List Log → Result Reply Refusal → List ℕ

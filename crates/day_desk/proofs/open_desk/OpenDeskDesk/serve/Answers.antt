@@ -1,7 +1,7 @@
 use Rattle.std.proofs.Common.{Ok, Err, sym, ap, ◌∙◌}
 use Rattle.std.proofs.lemmas.Result.{err_from_is_err_and}
 use Rattle.day_desk.proofs.Serves.{refused}
-use Rattle.day_desk.proofs.open_desk.OpenDesk.serve.Goals as goal
+use Rattle.day_desk.proofs.open_desk.OpenDeskDesk.serve.Goals as goal
 
 pub returns-in_err-answer-in-Call : goal.returns-in_err-answer-in-Call
 returns-in_err-answer-in-Call g c =

@@ -1,6 +1,6 @@
 ghost use Rattle.std.specs.Prelude.{◌≡◌, ℕ, ◌<◌, ◌≤◌, List, length};
 ghost use Rattle.line_writer.specs.Shows.{Answered};
-ghost use Rattle.day_desk.specs.Replies.{reply_line};
+ghost use Rattle.yard_desk.specs.Replies.{reply_line};
 
 use crate::Refusal;
 use line_writer::{ShortRow, write_list, write_log, write_no, write_ok, write_open};

@@ -1,8 +1,8 @@
 use Rattle.std.proofs.Common.{List, subst, rules}
 use Rattle.logs.specs.declared.log.Log.{Log}
 use Rattle.line_writer.specs.Shows.{Answered, list_lines}
-use Rattle.day_desk.proofs.Serves.{listed}
-use Rattle.day_desk.proofs.reply.write_reply.Goals as goal
+use Rattle.yard_desk.proofs.Replies.{listed}
+use Rattle.yard_desk.proofs.reply.write_reply.Goals as goal
 
 pub returns-in-Ok-Listed : goal.returns-in-Ok-Listed
 returns-in-Ok-Listed c =
