@@ -1,15 +1,15 @@
 -- A block of leaves replaced by another of as many slots.
-use Rattle.std.proofs.Common.{◌≡◌, ℕ, zero, suc, ◌+◌, ◌-◌, ◌*◌, ◌<◌, ◌≤◌, true, false, cond, List, [], ◌∷◌, ◌++◌, length, take, drop, Some, None, Option, sym, refl, ap, ◌∙◌, subst, append_assoc, mul-le-mul_right, add-mul, arith, take-add}
+use Rattle.std.proofs.Common.{◌≡◌, ℕ, zero, suc, ◌+◌, ◌-◌, ◌*◌, ◌<◌, ◌≤◌, List, ◌++◌, length, take, drop, sym, ap, ◌∙◌, subst, append_assoc, mul-le-mul_right, add-mul, arith, take-add}
 use lib.Seq.{drop-append-add}
-use Rattle.std.proofs.lemmas.List.{length-append, length-take-le, length-drop, drop-drop, drop-append-le, take-append-le}
+use Rattle.std.proofs.lemmas.List.{length-append, length-drop, drop-drop, drop-append-le, take-append-le}
 use Rattle.ordered.specs.declared.slot.Slot.{Slot}
-use Rattle.ordered.specs.Slots.{keep, pairs, Holds, Packed, first_key}
-use Rattle.slot_rows.proofs.Held.{head_of, held_append}
+use Rattle.ordered.specs.Slots.{pairs, Holds, Packed}
+use Rattle.std.proofs.Math.Nat.{suc-mul}
+use Rattle.ordered.proofs.Slots.{pairs_append}
+use Rattle.slot_rows.proofs.Held.{held_append}
 use Rattle.tree_layout.specs.Levels.{leaf_at}
+use Rattle.tree_layout.proofs.Leaves.{leaf_long}
 use Rattle.leaf_rows.specs.Leaves.{count_at}
-
-pub suc_times : (p m : ℕ) → suc p * m ≡ p * m + m
-suc_times p m = omega arith
 
 module _ {X : Type 0} where
   -- a leaf of what follows other leaves
@@ -21,28 +21,10 @@ module _ {X : Type 0} where
   -- a leaf within the first slots
   pub leaf_within : (m p : ℕ) (front rest : List X) → suc p * m ≤ length front → leaf_at m (front ++ rest) p ≡ leaf_at m front p
   leaf_within m p front rest l =
-      let s = suc_times p m in
+      let s = suc-mul p m in
       ap (take m) (drop-append-le (p * m) front rest (omega (arith, l, s))) ∙ take-append-le m (drop (p * m) front) rest (omega (arith, length-drop (p * m) front, l, s))
 
-  pub leaf_long : (m n p : ℕ) (ys : List X) → length ys ≡ n * m → p < n → length (leaf_at m ys p) ≡ m
-  leaf_long m n p ys e l = length-take-le m (drop (p * m) ys) (omega (arith, length-drop (p * m) ys, e, suc_times p m, mul-le-mul_right m l))
-
 module _ {K R : Type 0} where
-  pub pairs_append : (ss ts : List (Slot K R)) → pairs (ss ++ ts) ≡ pairs ss ++ pairs ts
-  pairs_append [] ts = refl
-  pairs_append (s ∷ ss) ts =
-      elim s.filled as (λ t. keep t (s.key, s.value) (pairs (ss ++ ts)) ≡ keep t (s.key, s.value) (pairs ss) ++ pairs ts)
-      [ true ↦ ap (λ ps. (s.key, s.value) ∷ ps) (pairs_append ss ts) | false ↦ pairs_append ss ts ]
-
-  abbrev pub key_of : Option (K × R) → Option K
-  key_of None = None
-  key_of (Some p) = Some p.0
-
-  pub first_key_lem : (ss : List (Slot K R)) → first_key ss ≡ key_of (head_of (pairs ss))
-  first_key_lem [] = refl
-  first_key_lem (s ∷ ss) =
-      elim s.filled as (λ t. cond t (Some s.key) (first_key ss) ≡ key_of (head_of (keep t (s.key, s.value) (pairs ss)))) [ true ↦ refl | false ↦ first_key_lem ss ]
-
   -- leaves that are full but for the last hold their pairs without a gap
   pub full_block : (m : ℕ) (ys : List (Slot K R)) (n : ℕ) → length ys ≡ n * m → (j t : ℕ) → t + j < n → ((p : ℕ) → t ≤ p → p ≤ t + j → Packed (leaf_at m ys p)) → ((p : ℕ) → t ≤ p → p < t + j → count_at m ys p ≡ m)
       → Packed (take (suc j * m) (drop (t * m) ys)) × (length (pairs (take (suc j * m) (drop (t * m) ys))) ≡ j * m + count_at m ys (t + j))
@@ -58,12 +40,12 @@ module _ {K R : Type 0} where
       let w : suc t + j ≡ t + suc j = omega arith in
       let ih = full_block m ys n e j (suc t) (omega (arith, l)) (λ p a c. packed p (omega (arith, a)) (omega (arith, c))) (λ p a c. full p (omega (arith, a)) (omega (arith, c))) in
       let q : suc (suc j) * m ≡ m + suc j * m = omega arith in
-      let d : drop m (drop (t * m) ys) ≡ drop (suc t * m) ys = drop-drop m (t * m) ys ∙ ap (λ k. drop k ys) (sym (suc_times t m)) in
+      let d : drop m (drop (t * m) ys) ≡ drop (suc t * m) ys = drop-drop m (t * m) ys ∙ ap (λ k. drop k ys) (sym (suc-mul t m)) in
       let split : take (suc (suc j) * m) (drop (t * m) ys) ≡ A ++ B = ap (λ k. take k (drop (t * m) ys)) q ∙ take-add m (suc j * m) (drop (t * m) ys) ∙ ap (λ zs. A ++ take (suc j * m) zs) d in
       let c : count_at m ys t ≡ m = full t (omega arith) (omega arith) in
       let held : Holds (pairs A ++ pairs B) (A ++ B) = held_append (pairs A) (pairs B) A B (leaf_long m n t ys e (omega (arith, l)) ∙ sym c) (packed t (omega arith) (omega arith)) ih.0 in (
         subst Packed (sym split) (subst (λ r. Holds r (A ++ B)) (sym (pairs_append A B)) held),
-        ap (λ zs. length (pairs zs)) split ∙ ap length (pairs_append A B) ∙ length-append (pairs A) (pairs B) ∙ omega (arith, c, ih.1, ap (λ k. count_at m ys k) w, suc_times j m),
+        ap (λ zs. length (pairs zs)) split ∙ ap length (pairs_append A B) ∙ length-append (pairs A) (pairs B) ∙ omega (arith, c, ih.1, ap (λ k. count_at m ys k) w, suc-mul j m),
       )
 
 -- what follows, for leaves lo to lo + j of a row of n leaves
@@ -92,7 +74,7 @@ module _ {X : Type 0} (m n lo j : ℕ) (A S T C : List X) (la : length A ≡ lo 
   behind : (Z : List X) → length Z ≡ suc j * m → (p : ℕ) → lo + j < p → leaf_at m (A ++ (Z ++ C)) p ≡ leaf_at m C (p - suc (lo + j))
   behind Z lz p l =
       let q : suc (lo + j) + (p - suc (lo + j)) ≡ p = omega (arith, l) in
-      let e : length (A ++ Z) ≡ suc (lo + j) * m = omega (arith, length-append A Z, la, lz, suc_times j m, suc_times (lo + j) m, add-mul lo j m) in
+      let e : length (A ++ Z) ≡ suc (lo + j) * m = omega (arith, length-append A Z, la, lz, suc-mul j m, suc-mul (lo + j) m, add-mul lo j m) in
       ap (λ (zs : List X). leaf_at m zs p) (sym (append_assoc A Z C)) ∙ ap (λ k. leaf_at m ((A ++ Z) ++ C) k) (sym q) ∙ leaf_behind m (suc (lo + j)) (p - suc (lo + j)) (A ++ Z) C e
 
   pub leaf_after : (p : ℕ) → lo + j < p → leaf_at m new p ≡ leaf_at m old p
@@ -104,9 +86,9 @@ module _ {X : Type 0} (m n lo j : ℕ) (A S T C : List X) (la : length A ≡ lo 
   -- what stands from a later leaf on is as it was
   pub drop_after : (p : ℕ) → lo + j < p → drop (p * m) new ≡ drop (p * m) old
   drop_after p l =
-      let s = suc_times (lo + j) m in
+      let s = suc-mul (lo + j) m in
       let le : suc (lo + j) * m ≤ p * m = mul-le-mul_right m l in
-      far T lt (omega (arith, le, s, add-mul lo j m, suc_times j m)) ∙ sym (far S ls (omega (arith, le, s, add-mul lo j m, suc_times j m)))
+      far T lt (omega (arith, le, s, add-mul lo j m, suc-mul j m)) ∙ sym (far S ls (omega (arith, le, s, add-mul lo j m, suc-mul j m)))
     where
       far : (Z : List X) → length Z ≡ suc j * m → lo * m + suc j * m ≤ p * m → drop (p * m) (A ++ (Z ++ C)) ≡ drop (p * m - (lo * m + suc j * m)) C
       far Z lz le =

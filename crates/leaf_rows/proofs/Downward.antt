@@ -4,16 +4,21 @@ use lib.Seq.{take-append-add, drop-append-add}
 use borrow.Rule.Slice.PartMut.{put_mid}
 use Rattle.std.proofs.lemmas.List.{length-append, length-take-le, length-drop, length_push, take_all, take_at, take-append-drop, take-append-le, drop_at, drop-append-le, drop-drop, get_or-drop, get_or_append_left, set-append_left, set-append_right}
 use Rattle.std.proofs.lemmas.Bool.{eq-eqb, ne_eqb}
+use Rattle.std.proofs.Math.Nat.{suc-mul}
 use Rattle.ordered.specs.declared.slot.Slot.{Slot}
 use Rattle.ordered.specs.Meaning.{Order, After, holds, Before}
 use Rattle.ordered.specs.Slots.{pairs, Shows, Holds, Packed}
-use Rattle.slot_rows.proofs.Held.{head_of, pairs_held, held_take, held_drop, held_append, at}
+use Rattle.ordered.proofs.Walks.{head_of}
+use Rattle.ordered.proofs.Slots.{pairs_append, key_of}
+use Rattle.ordered.proofs.Joins.{before_append, after_append}
+use Rattle.slot_rows.proofs.Held.{pairs_held, held_take, held_drop, held_append, at}
+use Rattle.slot_rows.proofs.Packs.{part_packed}
 use Rattle.tree_layout.specs.Levels.{leaf_at}
 use Rattle.tree_layout.specs.Belongs.{Belongs}
+use Rattle.tree_layout.proofs.Leaves.{leaf_long}
 use Rattle.leaf_rows.specs.Leaves.{count_at, Leafed, Nearest, PutIn}
-use Rattle.leaf_rows.proofs.Blocks.{suc_times, leaf_within, leaf_behind, leaf_long, full_block, pairs_append, key_of}
-use Rattle.leaf_rows.proofs.Cuts.{before_append, after_append}
-use Rattle.leaf_rows.proofs.Dealt.{dealt_packed, dealt_full}
+use Rattle.leaf_rows.proofs.Blocks.{leaf_within, leaf_behind, full_block}
+use Rattle.leaf_rows.proofs.Dealt.{dealt_full}
 use Rattle.leaf_rows.proofs.Landing.{stretches, put_block}
 use Rattle.leaf_rows.proofs.Upward.{place_within, earlier_keys, later_keys, some_earlier, absent_whole}
 
@@ -90,33 +95,33 @@ module _ {K R : Type 0} {b : K → K → Bool} (o : Order b) (m n : ℕ) (ys : L
   fits = mul-le-mul_right m bl.within
 
   t_times : t * m ≡ suc r * m + j * m
-  t_times = omega (arith, add-mul r (suc j) m, suc_times j m, suc_times r m)
+  t_times = omega (arith, add-mul r (suc j) m, suc-mul j m, suc-mul r m)
 
   long_l : length L ≡ m
   long_l = leaf_long m n r ys lf.long (omega (arith, near.within))
 
   long_a : length A ≡ r * m
-  long_a = length-take-le (r * m) ys (omega (arith, lf.long, fits, suc_times t m, t_times, suc_times r m))
+  long_a = length-take-le (r * m) ys (omega (arith, lf.long, fits, suc-mul t m, t_times, suc-mul r m))
 
   long_q : length Q ≡ suc j * m
-  long_q = length-take-le (suc j * m) (drop (suc r * m) ys) (omega (arith, length-drop (suc r * m) ys, lf.long, fits, suc_times t m, t_times, suc_times j m))
+  long_q = length-take-le (suc j * m) (drop (suc r * m) ys) (omega (arith, length-drop (suc r * m) ys, lf.long, fits, suc-mul t m, t_times, suc-mul j m))
 
   block : Packed Q × (length (pairs Q) ≡ j * m + count_at m ys (suc r + j))
   block = full_block m ys n lf.long j (suc r) (omega (arith, bl.within)) (λ p l u. lf.packed p (omega (arith, u, bl.within))) (λ p l u. full p l (omega (arith, u)))
 
   long_row : length (pairs Q) ≡ suc j * m
-  long_row = let e : suc r + j ≡ t = omega arith in omega (arith, block.1, ap (λ u. count_at m ys u) e, full t (omega arith) (omega arith), suc_times j m)
+  long_row = let e : suc r + j ≡ t = omega arith in omega (arith, block.1, ap (λ u. count_at m ys u) e, full t (omega arith) (omega arith), suc-mul j m)
 
   q_split : Q ≡ F ++ leaf_at m ys t
   q_split =
-      let q : suc j * m ≡ j * m + m = suc_times j m in
+      let q : suc j * m ≡ j * m + m = suc-mul j m in
       ap (λ u. take u (drop (suc r * m) ys)) q ∙ take-add (j * m) m (drop (suc r * m) ys) ∙ ap (λ zs. F ++ take m zs) (drop-drop (j * m) (suc r * m) ys ∙ ap (λ u. drop u ys) (sym t_times))
 
   pairs_q : pairs Q ≡ pairs F ++ lrow
   pairs_q = ap pairs q_split ∙ pairs_append F (leaf_at m ys t)
 
   long_f : length (pairs F) ≡ j * m
-  long_f = omega (arith, ap length pairs_q, length-append (pairs F) lrow, long_row, full t (omega arith) (omega arith), suc_times j m)
+  long_f = omega (arith, ap length pairs_q, length-append (pairs F) lrow, long_row, full t (omega arith) (omega arith), suc-mul j m)
 
   front : take i (pairs Q) ≡ pairs F ++ take a lrow
   front = let e : i ≡ length (pairs F) + a = omega (arith, long_f) in ap (take i) pairs_q ∙ ap (λ u. take u (pairs F ++ lrow)) e ∙ take-append-add (pairs F) lrow a
@@ -128,23 +133,23 @@ module _ {K R : Type 0} {b : K → K → Bool} (o : Order b) (m n : ℕ) (ys : L
   i_some = omega (arith, some_earlier o m n ys lf k t bl absent (omega arith))
 
   i_in : i ≤ length (pairs Q)
-  i_in = omega (arith, place_within o m n ys lf k t bl absent, long_row, full t (omega arith) (omega arith), suc_times j m)
+  i_in = omega (arith, place_within o m n ys lf k t bl absent, long_row, full t (omega arith) (omega arith), suc-mul j m)
 
   after_l : drop (suc r * m) ys ≡ Q ++ C
   after_l =
-      let q : suc r * m + suc j * m ≡ suc t * m = omega (arith, suc_times t m, t_times, suc_times j m) in
+      let q : suc r * m + suc j * m ≡ suc t * m = omega (arith, suc-mul t m, t_times, suc-mul j m) in
       sym (take-append-drop (suc j * m) (drop (suc r * m) ys)) ∙ ap (λ zs. Q ++ zs) (drop-drop (suc j * m) (suc r * m) ys ∙ ap (λ u. drop u ys) q)
 
   s_split : S ≡ L ++ Q
   s_split =
-      let q : suc (suc j) * m ≡ m + suc j * m = omega (arith, suc_times (suc j) m) in
-      ap (λ u. take u (drop (r * m) ys)) q ∙ take-add m (suc j * m) (drop (r * m) ys) ∙ ap (λ zs. L ++ take (suc j * m) zs) (drop-drop m (r * m) ys ∙ ap (λ u. drop u ys) (sym (suc_times r m)))
+      let q : suc (suc j) * m ≡ m + suc j * m = omega (arith, suc-mul (suc j) m) in
+      ap (λ u. take u (drop (r * m) ys)) q ∙ take-add m (suc j * m) (drop (r * m) ys) ∙ ap (λ zs. L ++ take (suc j * m) zs) (drop-drop m (r * m) ys ∙ ap (λ u. drop u ys) (sym (suc-mul r m)))
 
   before_t : take (t * m) ys ≡ A ++ (L ++ F)
   before_t =
-      let q : t * m ≡ r * m + (m + j * m) = omega (arith, t_times, suc_times r m) in
+      let q : t * m ≡ r * m + (m + j * m) = omega (arith, t_times, suc-mul r m) in
       ap (λ u. take u ys) q ∙ take-add (r * m) (m + j * m) ys
-      ∙ ap (λ zs. A ++ zs) (take-add m (j * m) (drop (r * m) ys) ∙ ap (λ zs. L ++ take (j * m) zs) (drop-drop m (r * m) ys ∙ ap (λ u. drop u ys) (sym (suc_times r m))))
+      ∙ ap (λ zs. A ++ zs) (take-add m (j * m) (drop (r * m) ys) ∙ ap (λ zs. L ++ take (j * m) zs) (drop-drop m (r * m) ys ∙ ap (λ u. drop u ys) (sym (suc-mul r m))))
 
   some_q : 0 < length Q
   some_q = omega (arith, long_q, i_in, i_some, long_row)
@@ -195,7 +200,7 @@ module _ {K R : Type 0} {b : K → K → Bool} (o : Order b) (m n : ℕ) (ys : L
 
   packed_at : (u : ℕ) → u ≤ suc j → Packed (leaf_at m (L' ++ Q') u)
   packed_at zero l = subst Packed (sym first_leaf) (subst (λ ps. Holds ps L') (sym pairs_l) l_held)
-  packed_at (suc u) l = subst Packed (sym (later_leaf u)) (dealt_packed m qrow Q' sunk.held u)
+  packed_at (suc u) l = subst Packed (sym (later_leaf u)) (part_packed qrow Q' sunk.held (u * m) m)
 
   count_at_lem : (u : ℕ) → u ≤ suc j → count_at m (L' ++ Q') u ≡ count_at m ys (r + u) + cond (eqb (r + u) r) 1 0
   count_at_lem zero l =
@@ -235,7 +240,7 @@ module _ {K R : Type 0} {b : K → K → Bool} (o : Order b) (m n : ℕ) (ys : L
   down_put : PutIn b m n ys k v t r (r + suc j) (A ++ ((L' ++ Q') ++ C))
   down_put =
       put_block o m n ys lf k v t (absent_whole o m n ys lf k t bl absent) r r (suc j) near (omega arith) (omega arith) A (L ++ Q) (L' ++ Q') C parts long_a
-      (omega (arith, length-append L Q, long_l, long_q, suc_times (suc j) m)) (omega (arith, length-append L' Q', long_l', long_q', suc_times (suc j) m))
+      (omega (arith, length-append L Q, long_l, long_q, suc-mul (suc j) m)) (omega (arith, length-append L' Q', long_l', long_q', suc-mul (suc j) m))
       (pairs L ++ take i (pairs Q)) (drop i (pairs Q))
       (pairs_append L Q ∙ ap (λ ps. pairs L ++ ps) (sym (take-append-drop i (pairs Q))) ∙ sym (append_assoc (pairs L) (take i (pairs Q)) (drop i (pairs Q)))) pairs_t bf af packed_at count_at_lem (λ _. heads)
 
@@ -244,12 +249,12 @@ module _ {K R : Type 0} {b : K → K → Bool} (o : Order b) (m n : ℕ) (ys : L
       → PutIn b m n ys k v t r t (put_mid s (last - s) (set ys e moved) part)
   down_slots e s last part ee es el ep =
       let whole : ys ≡ (A ++ L) ++ (Q ++ C) = parts ∙ ap (λ zs. A ++ zs) (append_assoc L Q C) ∙ sym (append_assoc A L (Q ++ C)) in
-      let la : length (A ++ L) ≡ suc r * m = omega (arith, length-append A L, long_a, long_l, suc_times r m) in
+      let la : length (A ++ L) ≡ suc r * m = omega (arith, length-append A L, long_a, long_l, suc-mul r m) in
       let eq : e - length A ≡ length (pairs L) = omega (arith, ee, long_a) in
       let stored : set ys e moved ≡ (A ++ L') ++ (Q ++ C) =
-      ap (λ zs. set zs e moved) whole ∙ set-append_left (A ++ L) (Q ++ C) e moved (omega (arith, la, ee, near.free, suc_times r m))
+      ap (λ zs. set zs e moved) whole ∙ set-append_left (A ++ L) (Q ++ C) e moved (omega (arith, la, ee, near.free, suc-mul r m))
       ∙ ap (λ zs. zs ++ (Q ++ C)) (set-append_right A L (length A) e moved refl (omega (arith, long_a, ee)) ∙ ap (λ u. A ++ set L u moved) eq) in
-      let lm : length (A ++ L') ≡ s = omega (arith, length-append A L', long_a, long_l', es, suc_times r m) in
+      let lm : length (A ++ L') ≡ s = omega (arith, length-append A L', long_a, long_l', es, suc-mul r m) in
       let head : take s (set ys e moved) ≡ A ++ L' = ap (take s) stored ∙ take_at (A ++ L') (Q ++ C) s lm in
       let tail : drop s (set ys e moved) ≡ Q ++ C = ap (drop s) stored ∙ drop_at (A ++ L') (Q ++ C) s lm in
       let d : last - s ≡ i = omega (arith, el, es, t_times) in

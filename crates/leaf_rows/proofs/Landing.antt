@@ -1,22 +1,23 @@
 -- A block of leaves with one more pair in it.
-use Rattle.std.proofs.Common.{◌≡◌, ℕ, zero, suc, ◌+◌, ◌-◌, ◌*◌, ◌<◌, ◌≤◌, min, max, Bool, false, cond, eqb, List, [], ◌∷◌, ◌++◌, length, take, drop, is_some, sym, refl, ap, ◌∙◌, subst, ⊎_elim, append_assoc, add-mul, arith}
+use Rattle.std.proofs.Common.{◌≡◌, ℕ, zero, suc, ◌+◌, ◌-◌, ◌*◌, ◌<◌, ◌≤◌, min, max, Bool, false, cond, eqb, List, [], ◌∷◌, ◌++◌, length, take, drop, sym, refl, ap, ◌∙◌, subst, ⊎_elim, append_assoc, add-mul, arith}
 use Rattle.std.proofs.lemmas.List.{length-append, take-append-drop, drop-drop}
 use Rattle.std.proofs.lemmas.Bool.{cases_lt, ne_eqb}
+use Rattle.std.proofs.Math.Nat.{suc-mul}
 use Rattle.ordered.specs.declared.slot.Slot.{Slot}
-use Rattle.ordered.specs.Meaning.{Order, After, Ascending, lookup, holds, inserted, Before}
+use Rattle.ordered.specs.Meaning.{Order, After, Ascending, holds, inserted, Before}
 use Rattle.ordered.specs.Slots.{pairs, Packed, first_key}
 use Rattle.ordered.proofs.Rows.{ascending_inserted}
-use Rattle.slot_rows.proofs.Held.{head_of}
+use Rattle.ordered.proofs.Walks.{head_of}
+use Rattle.ordered.proofs.Slots.{pairs_append, key_of, first_key_lem}
+use Rattle.ordered.proofs.Joins.{inserted_between}
 use Rattle.tree_layout.specs.Levels.{leaf_at}
-use Rattle.tree_layout.specs.Belongs.{Belongs}
 use Rattle.leaf_rows.specs.Leaves.{count_at, Leafed, Nearest, PutIn}
-use Rattle.leaf_rows.proofs.Blocks.{suc_times, leaf_before, leaf_inside, leaf_after, drop_after, drop_before, pairs_append, key_of, first_key_lem}
-use Rattle.leaf_rows.proofs.Cuts.{inserted_between, lookup_between}
+use Rattle.leaf_rows.proofs.Blocks.{leaf_before, leaf_inside, leaf_after, drop_after, drop_before}
 
 -- three stretches of a row of slots
 pub stretches : {X : Type 0} (m lo j : ℕ) (ys : List X) → ys ≡ take (lo * m) ys ++ (take (suc j * m) (drop (lo * m) ys) ++ drop (suc (lo + j) * m) ys)
 stretches m lo j ys =
-    let q : lo * m + suc j * m ≡ suc (lo + j) * m = omega (arith, suc_times j m, suc_times (lo + j) m, add-mul lo j m) in
+    let q : lo * m + suc j * m ≡ suc (lo + j) * m = omega (arith, suc-mul j m, suc-mul (lo + j) m, add-mul lo j m) in
     sym (take-append-drop (lo * m) ys)
     ∙ ap (λ zs. take (lo * m) ys ++ zs) (sym (take-append-drop (suc j * m) (drop (lo * m) ys)) ∙ ap (λ zs. take (suc j * m) (drop (lo * m) ys) ++ zs) (drop-drop (suc j * m) (lo * m) ys ∙ ap (λ k. drop k ys) q))
 
@@ -29,20 +30,6 @@ module _ {K R : Type 0} where
   head_front zero row us vs p l = absurd (omega (arith, p))
   head_front (suc a) [] us vs p l = absurd (omega (arith, l))
   head_front (suc a) (r ∷ row) us vs p l = refl
-
-module _ {K R : Type 0} {b : K → K → Bool} (o : Order b) (m n : ℕ) (ys : List (Slot K R)) (lf : Leafed b m n ys) (k : K) (t : ℕ) (bl : Belongs b m n ys k t) where
-  -- the row around leaf t
-  pub rows_at : pairs ys ≡ pairs (take (t * m) ys) ++ (pairs (leaf_at m ys t) ++ pairs (drop (suc t * m) ys))
-  rows_at =
-      let q : suc zero * m ≡ m = omega arith in
-      let z : t + zero ≡ t = omega arith in
-      ap pairs (stretches m t 0 ys ∙ ap (λ i. take (t * m) ys ++ (take i (drop (t * m) ys) ++ drop (suc (t + zero) * m) ys)) q ∙ ap (λ i. take (t * m) ys ++ (leaf_at m ys t ++ drop (suc i * m) ys)) z)
-      ∙ pairs_append (take (t * m) ys) (leaf_at m ys t ++ drop (suc t * m) ys)
-      ∙ ap (λ ps. pairs (take (t * m) ys) ++ ps) (pairs_append (leaf_at m ys t) (drop (suc t * m) ys))
-
-  -- a key is in the row exactly if it is in the leaf where it belongs
-  pub holds_at : holds b (pairs ys) k ≡ holds b (pairs (leaf_at m ys t)) k
-  holds_at = ap is_some (ap (λ ps. lookup b ps k) rows_at ∙ lookup_between o k (pairs (take (t * m) ys)) (pairs (leaf_at m ys t)) (pairs (drop (suc t * m) ys)) bl.earlier bl.later)
 
 -- a leaf is before the block, in it or after it
 pub pick : (F : ℕ → Type 0) (lo j n p : ℕ) → p < n → ((q : ℕ) → q < lo → q < n → F q) → ((i : ℕ) → i ≤ j → F (lo + i)) → ((q : ℕ) → lo + j < q → q < n → F q) → F p

@@ -1,8 +1,9 @@
 -- What a put answers, from where its key belongs.
-use Rattle.std.proofs.Common.{◌≡◌, ℕ, suc, ◌+◌, ◌-◌, ◌*◌, ◌/◌, ◌<◌, ◌≤◌, min, Bool, true, false, cond, eqb, List, [], ◌∷◌, ◌++◌, length, get_or, take, drop, set, Some, None, Ok, Err, sym, refl, ap, ◌∙◌, subst, ⊎_elim, mul-le-mul_right, mul-div_cancel, arith}
+use Rattle.std.proofs.Common.{◌≡◌, ℕ, suc, ◌+◌, ◌-◌, ◌*◌, ◌/◌, ◌<◌, ◌≤◌, min, Bool, true, false, cond, eqb, List, [], ◌∷◌, ◌++◌, length, get_or, take, drop, set, is_some, Some, None, Ok, Err, sym, refl, ap, ◌∙◌, subst, ⊎_elim, mul-le-mul_right, mul-div_cancel, arith}
 use Rattle.std.proofs.lemmas.List.{take_all}
 use borrow.Rule.Slice.PartMut.{put_mid}
 use Rattle.std.proofs.lemmas.Bool.{cond-true, cond-false, eq-eqb, ne_eqb, cases_lt}
+use Rattle.std.proofs.Math.Nat.{suc-mul}
 use Rattle.ordered.specs.declared.fault.Fault.TheVariants.{Full, Present}
 use Rattle.ordered.specs.declared.key.Key.{Ghosts}
 use Rattle.ordered.specs.declared.slot.Slot.{Slot}
@@ -17,14 +18,14 @@ use Rattle.slot_rows.proofs.Held.{length_held, at}
 use Rattle.slot_rows.proofs.Looks.{found, missing}
 use Rattle.tree_layout.specs.Levels.{leaf_at}
 use Rattle.tree_layout.specs.Belongs.{Belongs}
+use Rattle.tree_layout.proofs.Leaves.{leaf_long, leaf_ascends, leaf_lookup}
 use Rattle.leaf_rows.specs.declared.leaves.Leaves.{Leaves}
 use Rattle.leaf_rows.specs.declared.placing.Span.{Span}
 use Rattle.leaf_rows.specs.Leaves.{count_at, Leafed, distance, Nearest, PutIn}
 use Rattle.leaf_rows.specs.Puts.{Puts}
-use Rattle.leaf_rows.proofs.Blocks.{suc_times, leaf_long, full_block}
+use Rattle.leaf_rows.proofs.Blocks.{full_block}
 use Rattle.leaf_rows.proofs.Downward.{down_slots}
-use Rattle.leaf_rows.proofs.Landing.{holds_at}
-use Rattle.leaf_rows.proofs.Upward.{place_within, row_ascends, up_slots}
+use Rattle.leaf_rows.proofs.Upward.{place_within, up_slots}
 
 pairs_short : {K R : Type 0} (ss : List (Slot K R)) → length (pairs ss) ≤ length ss
 pairs_short [] = omega arith
@@ -56,7 +57,7 @@ module _ {K R : Type 0} {key : Ghosts K} (o : Order key.before) (wide : 2 ≤ ke
   part_is = read ∙ ap (λ vs. leaf_at m vs t) made.area
 
   ascends : Ascending b (pairs part)
-  ascends = subst (λ ss. Ascending b (pairs ss)) (sym part_is) (row_ascends o m n ys lf k t bl)
+  ascends = subst (λ ss. Ascending b (pairs ss)) (sym part_is) (leaf_ascends m t ys b lf.ascending)
 
   held : Packed part
   held = subst Packed (sym part_is) (lf.packed t bl.within)
@@ -64,7 +65,7 @@ module _ {K R : Type 0} {key : Ghosts K} (o : Order key.before) (wide : 2 ≤ ke
   pub put_there : (i : ℕ) → (Falling (below Lower b k) part → Ok i ≡ located b k part) → Puts b m n ys k v t (Err Present) ys
   put_there i is =
       let f : holds b (pairs (leaf_at m ys t)) k ≡ true = subst (λ ss. holds b (pairs ss) k ≡ true) part_is (found o k (pairs part) part ascends held i is).0 in
-      let due : put_refusal b (n * m) (pairs ys) k ≡ Some 33 = cond-true (holds b (pairs ys) k) (Some 33) (cond (eqb (length (pairs ys)) (n * m)) (Some 32) None) (holds_at o m n ys lf k t bl ∙ f) in
+      let due : put_refusal b (n * m) (pairs ys) k ≡ Some 33 = cond-true (holds b (pairs ys) k) (Some 33) (cond (eqb (length (pairs ys)) (n * m)) (Some 32) None) (ap is_some (leaf_lookup m t ys o n k bl) ∙ f) in
       record { outcome = subst (λ d. Outcome {X = Span} d (Err Present)) (sym due) refl; after = refl }
 
   module _ (i : ℕ) (is : Falling (below Lower b k) part → Err i ≡ located b k part) where
@@ -72,7 +73,7 @@ module _ {K R : Type 0} {key : Ghosts K} (o : Order key.before) (wide : 2 ≤ ke
     lacks = subst (λ ss. (holds b (pairs ss) k ≡ false) × (i ≡ at o k (pairs ss))) part_is (missing o k (pairs part) part ascends held i is)
 
     not_there : holds b (pairs ys) k ≡ false
-    not_there = holds_at o m n ys lf k t bl ∙ lacks.0
+    not_there = ap is_some (leaf_lookup m t ys o n k bl) ∙ lacks.0
 
     number : leaves.count ≡ n
     number = made.count ∙ leaves_are m n ys (omega (arith, wide)) lf.long
@@ -94,7 +95,7 @@ module _ {K R : Type 0} {key : Ghosts K} (o : Order key.before) (wide : 2 ≤ ke
             let z : 0 * m ≡ 0 = omega arith in
             let whole : take (suc j * m) (drop (0 * m) ys) ≡ ys = ap (λ u. take (suc j * m) (drop u ys)) z ∙ take_all (suc j * m) ys (omega (arith, lf.long, ap (λ u. u * m) sj)) in
             let blk = full_block m ys n lf.long j 0 (omega (arith, sj)) (λ p l u. lf.packed p (omega (arith, u, sj))) (λ p l u. full p (omega (arith, u, sj))) in
-            omega (arith, ap (λ ss. length (pairs ss)) whole, blk.1, full (0 + j) (omega (arith, sj)), suc_times j m, ap (λ u. u * m) sj)
+            omega (arith, ap (λ ss. length (pairs ss)) whole, blk.1, full (0 + j) (omega (arith, sj)), suc-mul j m, ap (λ u. u * m) sj)
 
     done : (low high : ℕ) (zs : List (Slot K R)) → PutIn b m n ys k v t low high zs → Puts b m n ys k v t (Ok (record { low = low; high = high })) zs
     done low high zs p =
@@ -122,7 +123,7 @@ module _ {K R : Type 0} {key : Ghosts K} (o : Order key.before) (wide : 2 ≤ ke
           let tj : t + j ≡ r = omega (arith, l) in
           let near' : Nearest m n ys t (t + j) = subst (Nearest m n ys t) (sym tj) near in
           let inside = place_within o m n ys lf k t bl lacks.0 in
-          let below : place ≤ free = ⊎_elim (λ lt. omega (arith, place_is, inside, at_most t bl.within, ef, suc_times t m, mul-le-mul_right m lt))
+          let below : place ≤ free = ⊎_elim (λ lt. omega (arith, place_is, inside, at_most t bl.within, ef, suc-mul t m, mul-le-mul_right m lt))
           (λ ge. let q : r ≡ t = omega (arith, l, ge) in omega (arith, place_is, inside, ef, ap (λ u. u * m) q, ap (λ u. count_at m ys u) q)) (cases_lt t r) in
           let end_is : end ≡ (t + j) * m + count_at m ys (t + j) + 1 = omega (arith, ee, ef, ap (λ u. u * m) tj, ap (λ u. count_at m ys u) tj) in
           let full : (q : ℕ) → t ≤ q → q < t + j → count_at m ys q ≡ m = λ q a c. full_near (t + j) near' q (omega (arith, c, near'.within)) (omega (arith, a, c)) in
@@ -133,7 +134,7 @@ module _ {K R : Type 0} {key : Ghosts K} (o : Order key.before) (wide : 2 ≤ ke
       put_down moved next part l en read is =
           let j = t - suc r in
           let tj : r + suc j ≡ t = omega (arith, l) in
-          let next_is : next ≡ suc r * m = omega (arith, en, ap (λ u. r * u) ew, ew, suc_times r m) in
+          let next_is : next ≡ suc r * m = omega (arith, en, ap (λ u. r * u) ew, ew, suc-mul r m) in
           done r t _ (moved_down j tj lacks.0 near next_is (subst (λ u. moved ≡ get_or ys u moved) next_is read) place_is)
         where
           moved_down : (j : ℕ) → r + suc j ≡ t → holds b (pairs (leaf_at m ys t)) k ≡ false → Nearest m n ys t r → next ≡ suc r * m → moved ≡ get_or ys (suc r * m) moved → place ≡ t * m + at o k (pairs (leaf_at m ys t)) → PutIn b m n ys k v t r t (put_mid next (place - next) (set ys free moved) part)
@@ -145,7 +146,7 @@ module _ {K R : Type 0} {key : Ghosts K} (o : Order key.before) (wide : 2 ≤ ke
 -- a leaf lies within the row, and so does the first slot of a leaf before another
 module _ {K R : Type 0} {key : Ghosts K} (leaves : Leaves K R key) (ys : List (Slot K R)) (same : leaves.area.now ≡ ys) where
   pub leaf_fits : (p : ℕ) → p < leaves.count → p * key.WIDTH + key.WIDTH ≤ length ys
-  leaf_fits p l = omega (arith, leaves.within, ap length same, mul-le-mul_right key.WIDTH l, suc_times p key.WIDTH)
+  leaf_fits p l = omega (arith, leaves.within, ap length same, mul-le-mul_right key.WIDTH l, suc-mul p key.WIDTH)
 
   pub next_fits : (w r t : ℕ) → w ≡ key.WIDTH → 2 ≤ key.WIDTH → r < t → t < leaves.count → (r + 1) * w < length ys
-  next_fits w r t ew wide l lt = omega (arith, leaf_fits t lt, mul-le-mul_right key.WIDTH l, suc_times r key.WIDTH, ap (λ u. r * u) ew)
+  next_fits w r t ew wide l lt = omega (arith, leaf_fits t lt, mul-le-mul_right key.WIDTH l, suc-mul r key.WIDTH, ap (λ u. r * u) ew)

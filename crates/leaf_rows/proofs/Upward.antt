@@ -1,26 +1,28 @@
 -- A pair put in with the pairs above it moved up, to the free slot of the same leaf or of a later one.
-use Rattle.std.proofs.Common.{◌≡◌, ℕ, suc, ◌+◌, ◌-◌, ◌*◌, ◌<◌, ◌≤◌, Bool, false, cond, eqb, List, ◌∷◌, ◌++◌, length, take, drop, sym, ap, ◌∙◌, subst, ⊎_elim, append_assoc, mul-le-mul_right, add-mul, arith, take-add}
+use Rattle.std.proofs.Common.{◌≡◌, ℕ, suc, ◌+◌, ◌-◌, ◌*◌, ◌<◌, ◌≤◌, Bool, false, cond, eqb, List, ◌∷◌, ◌++◌, length, take, drop, is_some, sym, ap, ◌∙◌, subst, ⊎_elim, append_assoc, mul-le-mul_right, add-mul, arith, take-add}
 use borrow.Rule.Slice.PartMut.{put_mid}
 use Rattle.std.proofs.lemmas.List.{length-append, length-take-le, length-drop, take-take, take-append-drop, take-append-le, drop-append-le, drop-drop}
 use Rattle.std.proofs.lemmas.Bool.{cases_lt, eq-eqb, ne_eqb}
+use Rattle.std.proofs.Math.Nat.{suc-mul}
 use Rattle.ordered.specs.declared.slot.Slot.{Slot}
-use Rattle.ordered.specs.Meaning.{Order, After, Ascending, holds, Before}
+use Rattle.ordered.specs.Meaning.{Order, After, holds, Before}
 use Rattle.ordered.specs.Slots.{pairs, Shows, Holds, Packed}
+use Rattle.ordered.proofs.Walks.{head_of}
+use Rattle.ordered.proofs.Slots.{pairs_append, key_of}
+use Rattle.ordered.proofs.Joins.{before_append, after_append}
 use Rattle.slot_rows.specs.declared.halving.Bound.TheVariants.{Lower}
-use Rattle.slot_rows.proofs.Held.{head_of, pairs_held, lead_within, at}
+use Rattle.slot_rows.proofs.Held.{pairs_held, lead_within, at}
 use Rattle.slot_rows.proofs.Parts.{put_in}
 use Rattle.slot_rows.proofs.Splices.{spliced, spliced_long, part_front, pushed_up}
+use Rattle.slot_rows.proofs.Packs.{part_packed}
 use Rattle.tree_layout.specs.Levels.{leaf_at}
 use Rattle.tree_layout.specs.Belongs.{Belongs}
+use Rattle.tree_layout.proofs.Leaves.{leaf_ascends, leaf_lookup}
 use Rattle.leaf_rows.specs.Leaves.{count_at, Leafed, Nearest, PutIn}
-use Rattle.leaf_rows.proofs.Blocks.{suc_times, full_block, pairs_append, key_of}
-use Rattle.leaf_rows.proofs.Cuts.{before_append, after_append, ascending_parts, before_place, after_place, place_some}
-use Rattle.leaf_rows.proofs.Dealt.{dealt_packed, dealt_full, dealt_last}
-use Rattle.leaf_rows.proofs.Landing.{stretches, head_front, rows_at, holds_at, put_block}
-
-module _ {K R : Type 0} {b : K → K → Bool} (o : Order b) (m n : ℕ) (ys : List (Slot K R)) (lf : Leafed b m n ys) (k : K) (t : ℕ) (bl : Belongs b m n ys k t) where
-  pub row_ascends : Ascending b (pairs (leaf_at m ys t))
-  row_ascends = (ascending_parts b (pairs (leaf_at m ys t)) (pairs (drop (suc t * m) ys)) (ascending_parts b (pairs (take (t * m) ys)) (pairs (leaf_at m ys t) ++ pairs (drop (suc t * m) ys)) (subst (Ascending b) (rows_at o m n ys lf k t bl) lf.ascending)).1).0
+use Rattle.leaf_rows.proofs.Blocks.{full_block}
+use Rattle.leaf_rows.proofs.Cuts.{before_place, after_place, place_some}
+use Rattle.leaf_rows.proofs.Dealt.{dealt_full, dealt_last}
+use Rattle.leaf_rows.proofs.Landing.{stretches, head_front, put_block}
 
 module _ {K R : Type 0} {b : K → K → Bool} (o : Order b) (m n : ℕ) (ys : List (Slot K R)) (lf : Leafed b m n ys) (k : K) (t : ℕ) (bl : Belongs b m n ys k t) (absent : holds b (pairs (leaf_at m ys t)) k ≡ false) where
   abbrev row : List (K × R)
@@ -36,13 +38,13 @@ module _ {K R : Type 0} {b : K → K → Bool} (o : Order b) (m n : ℕ) (ys : L
   earlier_keys = before_place o k row
 
   pub later_keys : After b k (drop a row)
-  later_keys = after_place o k row (row_ascends o m n ys lf k t bl) absent
+  later_keys = after_place o k row (leaf_ascends m t ys b lf.ascending) absent
 
   pub some_earlier : 0 < t → 0 < a
   some_earlier p = place_some o k row (bl.headed p) absent
 
   pub absent_whole : holds b (pairs ys) k ≡ false
-  absent_whole = holds_at o m n ys lf k t bl ∙ absent
+  absent_whole = ap is_some (leaf_lookup m t ys o n k bl) ∙ absent
 
 module _ {K R : Type 0} {b : K → K → Bool} (o : Order b) (m n : ℕ) (ys : List (Slot K R)) (lf : Leafed b m n ys) (k : K) (v : R) (x : Slot K R) (sh : Shows x (k, v)) (t j : ℕ) (bl : Belongs b m n ys k t)
     (absent : holds b (pairs (leaf_at m ys t)) k ≡ false) (near : Nearest m n ys t (t + j)) (full : (p : ℕ) → t ≤ p → p < t + j → count_at m ys p ≡ m) where
@@ -80,23 +82,23 @@ module _ {K R : Type 0} {b : K → K → Bool} (o : Order b) (m n : ℕ) (ys : L
   block = full_block m ys n lf.long j t near.within (λ p l u. lf.packed p (omega (arith, u, near.within))) full
 
   long_s : length S ≡ suc j * m
-  long_s = length-take-le (suc j * m) (drop (t * m) ys) (omega (arith, length-drop (t * m) ys, lf.long, fits, suc_times (t + j) m, add-mul t j m, suc_times j m))
+  long_s = length-take-le (suc j * m) (drop (t * m) ys) (omega (arith, length-drop (t * m) ys, lf.long, fits, suc-mul (t + j) m, add-mul t j m, suc-mul j m))
 
   long_a : length A ≡ t * m
-  long_a = length-take-le (t * m) ys (omega (arith, lf.long, fits, suc_times (t + j) m, add-mul t j m))
+  long_a = length-take-le (t * m) ys (omega (arith, lf.long, fits, suc-mul (t + j) m, add-mul t j m))
 
   room : length (pairs S) + 1 ≤ suc j * m
-  room = omega (arith, block.1, near.free, suc_times j m)
+  room = omega (arith, block.1, near.free, suc-mul j m)
 
   -- the first leaf of the block and the others
   block_split : S ≡ leaf_at m ys t ++ E
   block_split =
-      let q : suc j * m ≡ m + j * m = omega (arith, suc_times j m) in
-      ap (λ u. take u (drop (t * m) ys)) q ∙ take-add m (j * m) (drop (t * m) ys) ∙ ap (λ zs. leaf_at m ys t ++ take (j * m) zs) (drop-drop m (t * m) ys ∙ ap (λ u. drop u ys) (sym (suc_times t m)))
+      let q : suc j * m ≡ m + j * m = omega (arith, suc-mul j m) in
+      ap (λ u. take u (drop (t * m) ys)) q ∙ take-add m (j * m) (drop (t * m) ys) ∙ ap (λ zs. leaf_at m ys t ++ take (j * m) zs) (drop-drop m (t * m) ys ∙ ap (λ u. drop u ys) (sym (suc-mul t m)))
 
   rest_split : drop (suc t * m) ys ≡ E ++ C
   rest_split =
-      let q : suc t * m + j * m ≡ suc (t + j) * m = omega (arith, suc_times t m, suc_times (t + j) m, add-mul t j m) in
+      let q : suc t * m + j * m ≡ suc (t + j) * m = omega (arith, suc-mul t m, suc-mul (t + j) m, add-mul t j m) in
       sym (take-append-drop (j * m) (drop (suc t * m) ys)) ∙ ap (λ zs. E ++ zs) (drop-drop (j * m) (suc t * m) ys ∙ ap (λ u. drop u ys) q)
 
   pairs_s : pairs S ≡ lrow ++ pairs E
@@ -148,7 +150,7 @@ module _ {K R : Type 0} {b : K → K → Bool} (o : Order b) (m n : ℕ) (ys : L
       (take i (pairs S)) (drop i (pairs S)) (sym (take-append-drop i (pairs S))) pairs_t
       (subst (λ ps. Before b k (pairs A ++ ps)) (sym front) (before_append b k (pairs A) (take i lrow) bl.earlier (earlier_keys o m n ys lf k t bl absent)))
       (subst (After b k) (sym back) (after_append b k (drop i lrow) (pairs (drop (suc t * m) ys)) (later_keys o m n ys lf k t bl absent) bl.later))
-      (λ u l. dealt_packed m (take i (pairs S) ++ ((k, v) ∷ drop i (pairs S))) T held u) count_at_lem
+      (λ u l. part_packed (take i (pairs S) ++ ((k, v) ∷ drop i (pairs S))) T held (u * m) m) count_at_lem
       (λ p. ap (λ ps. key_of (head_of (ps ++ pairs C))) pairs_t ∙ ap (λ ps. key_of (head_of ps)) (append_assoc (take i (pairs S)) ((k, v) ∷ drop i (pairs S)) (pairs C))
       ∙ head_front i (pairs S) (((k, v) ∷ drop i (pairs S)) ++ pairs C) (pairs C) (some_earlier o m n ys lf k t bl absent p) i_len)
 
@@ -159,7 +161,7 @@ module _ {K R : Type 0} {b : K → K → Bool} (o : Order b) (m n : ℕ) (ys : L
       let d = length (pairs S) - i in
       let sd : end - from ≡ suc d = omega (arith, ef, ee, block.1, i_len, add-mul t j m) in
       let lo : length ys ≡ n * m = lf.long in
-      let bound : from + suc d ≤ length ys = omega (arith, lo, fits, suc_times (t + j) m, add-mul t j m, ef, block.1, i_len, near.free) in
+      let bound : from + suc d ≤ length ys = omega (arith, lo, fits, suc-mul (t + j) m, add-mul t j m, ef, block.1, i_len, near.free) in
       let shape : part ≡ x ∷ take d (drop i S) =
       ep ∙ ap (λ u. take (length (take u (drop from ys))) (x ∷ take u (drop from ys))) sd ∙ pushed_up from d x ys bound
       ∙ ap (λ zs. x ∷ take d zs) (ap (λ u. drop u ys) ef ∙ sym (drop-drop i (t * m) ys))
@@ -179,7 +181,7 @@ module _ {K R : Type 0} {b : K → K → Bool} (o : Order b) (m n : ℕ) (ys : L
     where
       after_a : drop (t * m) ys ≡ S ++ C
       after_a =
-          let q : t * m + suc j * m ≡ suc (t + j) * m = omega (arith, suc_times j m, suc_times (t + j) m, add-mul t j m) in
+          let q : t * m + suc j * m ≡ suc (t + j) * m = omega (arith, suc-mul j m, suc-mul (t + j) m, add-mul t j m) in
           sym (take-append-drop (suc j * m) (drop (t * m) ys)) ∙ ap (λ zs. S ++ zs) (drop-drop (suc j * m) (t * m) ys ∙ ap (λ u. drop u ys) q)
 
       inner : (d : ℕ) → i + d ≤ suc j * m → take d (drop i (drop (t * m) ys)) ≡ take d (drop i S)

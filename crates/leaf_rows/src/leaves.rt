@@ -60,6 +60,7 @@ impl<'a, K: Key, R: Copy> Leaves<'a, K, R> {
         ensures gives { ((p : ℕ) → p < self.now.count → Packed (leaf_at K.Key.WIDTH self.now.area.now p)) → MatchOption result ((p : ℕ) → p < self.now.count → count_at K.Key.WIDTH self.now.area.now p < K.Key.WIDTH → ⊥) (λ q. Nearest K.Key.WIDTH self.now.count self.now.area.now t q) }
     {
         let mut far = 0;
+        // The project's rules ask for a widening loop here that yields the leaf by `break`.
         loop {
             if far < self.count - t && self.is_free(t + far) {
                 break Some(t + far);

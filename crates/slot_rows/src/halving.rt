@@ -4,6 +4,7 @@ ghost use Rattle.slot_rows.specs.Ranks.{below, lead, located, Falling};
 
 use ordered::{Key, Slot};
 
+// A value and no closure: the definitions speak of it, and no contract needs a closure's relation.
 // Which slots count as below a key.
 #[derive(Clone, Copy)]
 pub enum Bound {

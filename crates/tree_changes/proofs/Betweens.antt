@@ -6,8 +6,8 @@ use Rattle.ordered.specs.Meaning.{Order, After, same, removed, updated, Before}
 use Rattle.ordered.proofs.Rows.{lookup_after, removed_absent, updated_absent}
 use Rattle.ordered.proofs.Lookups.{less_apart}
 use Rattle.ordered.specs.Slots.{first_key}
-use Rattle.slot_rows.proofs.Held.{head_of}
-use Rattle.leaf_rows.proofs.Blocks.{key_of}
+use Rattle.ordered.proofs.Walks.{head_of}
+use Rattle.ordered.proofs.Slots.{key_of}
 
 module _ {K R : Type 0} {b : K → K → Bool} (o : Order b) (k : K) where
   pub removed_between : (ps qs rs : List (K × R)) → Before b k ps → After b k rs → removed b (ps ++ (qs ++ rs)) k ≡ ps ++ (removed b qs k ++ rs)

@@ -11,11 +11,15 @@ use Rattle.ordered.specs.Meaning.{Order, Ascending, holds, removed, updated}
 use Rattle.ordered.specs.Slots.{pairs, Holds, Packed, first_key}
 use Rattle.ordered.proofs.Rows.{ascending_removed, ascending_updated, length_updated}
 use Rattle.ordered.proofs.Lookups.{length_removed}
-use Rattle.slot_rows.proofs.Held.{head_of, pairs_held, found_there, at}
+use Rattle.ordered.proofs.Walks.{head_of}
+use Rattle.ordered.proofs.Slots.{pairs_append, key_of}
+use Rattle.ordered.proofs.Joins.{ascending_parts}
+use Rattle.slot_rows.proofs.Held.{pairs_held, found_there, at}
 use Rattle.slot_edits.specs.Edits.{Edited}
 use Rattle.tree_layout.specs.declared.layout.Layout.{Layout}
 use Rattle.tree_layout.specs.Levels.{leaves, leaf_slots, tree_slots, area, leaf_at}
 use Rattle.tree_layout.proofs.Areas.{area_is}
+use Rattle.tree_layout.proofs.Leaves.{leaf_long}
 use Rattle.tree_index.specs.Index.{index_key, RuleAt}
 use Rattle.tree_index.specs.Refreshing.{Refreshed}
 use Rattle.tree_index.specs.Standing.{tree_row, Stands, Target}
@@ -23,8 +27,8 @@ use Rattle.tree_index.proofs.Keys.{area_long}
 use Rattle.tree_index.proofs.Leaves.{leaf_part}
 use Rattle.tree_search.proofs.Splits.{belongs, only_in}
 use Rattle.leaf_rows.specs.Leaves.{count_at, Leafed}
-use Rattle.leaf_rows.proofs.Blocks.{suc_times, leaf_long, leaf_inside, drop_before, pairs_append, key_of}
-use Rattle.leaf_rows.proofs.Cuts.{ascending_parts}
+use Rattle.leaf_rows.proofs.Blocks.{leaf_inside, drop_before}
+use Rattle.std.proofs.Math.Nat.{suc-mul}
 use Rattle.leaf_rows.proofs.Landing.{stretches, head_front, pick}
 use Rattle.tree_changes.proofs.Relaying.{Relaid, leafed_again, leaf_stays_before, leaf_stays_after, keys_before, keys_after}
 use Rattle.tree_changes.specs.Changed.{StandsWith, Replaced, Removed, Changed}
@@ -84,7 +88,7 @@ module _ {K R : Type 0} {b : K → K → Bool} (o : Order b) (y : Layout) (xs : 
       let D : List (Slot K R) = drop y.base xs in
       let size : ℕ = leaf_slots m h in
       let ai : ys ≡ take size D = area_is y xs in
-      let s = suc_times t m in
+      let s = suc-mul t m in
       let w : (from + m) - from ≡ m = omega arith in
       let q : t * m + m ≡ suc t * m = omega (arith, s) in
       let front : take from xs ≡ take y.base xs ++ A =
@@ -105,7 +109,7 @@ module _ {K R : Type 0} {b : K → K → Bool} (o : Order b) (y : Layout) (xs : 
   part_is = leaf_part y xs t (subst (λ u. t < u) (sym y.many) target.within)
 
   la : length A ≡ t * m
-  la = length-take-le (t * m) ys (omega (arith, long, fits, suc_times t m))
+  la = length-take-le (t * m) ys (omega (arith, long, fits, suc-mul t m))
 
   parts : ys ≡ A ++ (S ++ C)
   parts =
@@ -265,16 +269,16 @@ module _ {K R : Type 0} {b : K → K → Bool} (o : Order b) (y : Layout) (xs : 
           -- the first slot of leaf `low`, read among the leaves
           seen : (low < t) → (d : Slot K R) → get_or A (low * m) d ≡ get_or mid (y.base + low * m) d
           seen l d =
-              let lm : low * m + m ≤ t * m = omega (arith, mul-le-mul_right m l, suc_times low m) in
+              let lm : low * m + m ≤ t * m = omega (arith, mul-le-mul_right m l, suc-mul low m) in
               sym (get_or_append_left A (T ++ C) d (low * m) (omega (arith, la, lm, wide)))
               ∙ ap (λ vs. get_or vs (low * m) d) (sym (area_is_zs (removed b (pairs S) k) held_taken 0 rl₀))
-              ∙ ap (λ vs. get_or vs (low * m) d) (area_is y mid) ∙ get_or-take (leaf_slots m h) (drop y.base mid) (low * m) d (omega (arith, lm, wide, fits, suc_times t m)) ∙ get_or-drop y.base mid (low * m) d
+              ∙ ap (λ vs. get_or vs (low * m) d) (area_is y mid) ∙ get_or-take (leaf_slots m h) (drop y.base mid) (low * m) d (omega (arith, lm, wide, fits, suc-mul t m)) ∙ get_or-drop y.base mid (low * m) d
 
           keys : (p : ℕ) → 0 < p → p ≤ low → first_key (drop (p * m) zs) ≡ first_key (drop (p * m) ys)
           keys p p0 l =
               let f = filled (omega (arith, p0, l)) in
               let pl : p * m ≤ low * m = mul-le-mul_right m l in
-              let lm : low * m + m ≤ t * m = omega (arith, mul-le-mul_right m f.0, suc_times low m) in
+              let lm : low * m + m ≤ t * m = omega (arith, mul-le-mul_right m f.0, suc-mul low m) in
               let i : p * m + (low * m - p * m) ≡ low * m = omega (arith, pl) in
               let pt : p ≤ t = omega (arith, l, f.0) in
               ap first_key (drop_before m n t 0 A S T C la ls lt' (T ++ C) p pt)

@@ -1,57 +1,25 @@
 -- A standing tree with one more pair in its leaves stands again.
-use Rattle.std.proofs.Common.{◌≡◌, ℕ, suc, ◌+◌, ◌-◌, ◌*◌, ◌<◌, ◌≤◌, Bool, true, false, List, [], ◌∷◌, ◌++◌, length, take, drop, Ok, Err, Option, Result, sym, ap, ◌∙◌, subst, arith}
+use Rattle.std.proofs.Common.{◌≡◌, ℕ, ◌+◌, ◌-◌, ◌<◌, ◌≤◌, Bool, List, ◌++◌, length, take, drop, Ok, Err, Option, Result, sym, ap, ◌∙◌, subst, arith}
 use borrow.Rule.Slice.PartMut.{put_mid}
 use Rattle.std.proofs.lemmas.List.{take-append-drop}
-use Rattle.std.proofs.lemmas.Bool.{both_ways, not-true}
 use Rattle.ordered.specs.declared.fault.Fault.{Fault}
 use Rattle.ordered.specs.declared.slot.Slot.{Slot}
 use Rattle.ordered.specs.Changes.{put_refusal}
-use Rattle.ordered.specs.Meaning.{Order, Before}
-use Rattle.ordered.specs.Slots.{pairs}
+use Rattle.ordered.specs.Meaning.{Order}
 use Rattle.tree_layout.specs.declared.layout.Layout.{Layout}
-use Rattle.tree_layout.specs.Levels.{leaves, leaf_slots, tree_slots, area, leaf_of}
+use Rattle.tree_layout.specs.Levels.{leaves, leaf_slots, tree_slots, area}
 use Rattle.tree_layout.proofs.Levels.{tree_parts}
-use Rattle.tree_layout.specs.Belongs.{Headed, Belongs}
+use Rattle.tree_layout.specs.Belongs.{Belongs}
 use Rattle.tree_index.specs.Index.{index_key, RuleAt}
-use Rattle.ordered.specs.Slots as index
 use Rattle.tree_index.specs.Refreshing.{Refreshed}
-use Rattle.tree_index.specs.Standing.{tree_row, Stands, not_after, Target}
-use Rattle.tree_index.proofs.Keys.{or_else, index_next}
-use Rattle.ordered.specs.Meaning as search
+use Rattle.tree_index.specs.Standing.{tree_row, Stands, Target}
 use Rattle.tree_search.proofs.Splits.{belongs}
-use Rattle.slot_rows.proofs.Held.{head_of}
 use Rattle.leaf_rows.specs.declared.placing.Span.{Span}
 use Rattle.leaf_rows.specs.Leaves.{count_at, Leafed}
 use Rattle.leaf_rows.specs.Puts.{Puts}
-use Rattle.leaf_rows.proofs.Blocks.{key_of, first_key_lem}
 use Rattle.tree_changes.specs.Changed.{StandsWith, Landed, Changed}
 use Rattle.tree_changes.proofs.Relaying.{Relaid}
-use Rattle.tree_changes.proofs.Lands.{same_first, leafed, area_renewed, renewed, outcome_ok, outcome_err}
-
-module _ {K R : Type 0} where
-  same_before : (b : K → K → Bool) (k : K) (ps : List (K × R)) → search.Before b k ps → Before b k ps
-  same_before b k [] h = tt
-  same_before b k (p ∷ ps) h = (h.0, same_before b k ps h.1)
-
-  module _ {b : K → K → Bool} (o : Order b) (m h : ℕ) (xs : List (Slot K R)) (st : Stands b m h xs) (k : K) (t : ℕ) (target : Target b m h xs k t) where
-    headed_by : (row : List (K × R)) (next : Option K) → not_after b k (or_else (key_of (head_of row)) next) ≡ true → not_after b k next ≡ false → Headed b k row
-    headed_by [] next a n = absurd (both_ways (not_after b k next) n a)
-    headed_by (p ∷ row) next a n = not-true (b k p.0) a
-
-    -- the key belongs in the target leaf
-    in_target : Belongs b m (leaves m h) (area m h xs) k t
-    in_target =
-        let w = belongs o k m h xs t st target in
-        let e : t + 1 ≡ suc t = omega arith in
-        let first : index.first_key (leaf_of m h xs t) ≡ key_of (head_of (pairs (leaf_of m h xs t))) = same_first (leaf_of m h xs t) ∙ first_key_lem (leaf_of m h xs t) in
-        record {
-          within = target.within;
-          earlier = same_before b k (pairs (take (t * m) (area m h xs))) w.earlier;
-          later = w.later;
-          headed = λ p. headed_by (pairs (leaf_of m h xs t)) (index_key m h xs (t + 1))
-              (subst (λ q. not_after b k (or_else q (index_key m h xs (t + 1))) ≡ true) first (subst (λ q. not_after b k q ≡ true) (index_next m h t xs) (target.low p)))
-              (subst (λ u. not_after b k (index_key m h xs u) ≡ false) (sym e) (target.high (suc t) (omega arith)));
-        }
+use Rattle.tree_changes.proofs.Lands.{leafed, area_renewed, renewed, outcome_ok, outcome_err}
 
 module _ {K R : Type 0} {b : K → K → Bool} (o : Order b) (y : Layout) (xs : List (Slot K R)) (st : Stands b y.width y.height xs) (k : K) (v : R) (t : ℕ) (target : Target b y.width y.height xs k t) (end : ℕ) (ee : end ≡ tree_slots y.width y.height) where
   abbrev m : ℕ
@@ -83,7 +51,7 @@ module _ {K R : Type 0} {b : K → K → Bool} (o : Order b) (y : Layout) (xs : 
   puts_in w ew r zs puts =
       let here = subst (λ (ys : List (Slot K R)). (n : ℕ) → Leafed b w n ys → Belongs b w n ys k t → Puts b w n ys k v t r zs) lent_is puts in
       let wide = subst (λ u. (n : ℕ) → Leafed b u n (area m h xs) → Belongs b u n (area m h xs) k t → Puts b u n (area m h xs) k v t r zs) ew here in
-      wide (leaves m h) (leafed m h xs st) (in_target o m h xs st k t target)
+      wide (leaves m h) (leafed m h xs st) (belongs o k m h xs t st target)
 
   pub placed_ok : (span : Span) (zs ys : List (Slot K R)) (found : Option K) → PutsIn (Ok span) zs
       → (0 < span.high + 1 → tree_slots m h ≤ length (with_leaves zs) → RuleAt m h (with_leaves zs) (span.high + 1) → found ≡ index_key m h (with_leaves zs) (span.high + 1))

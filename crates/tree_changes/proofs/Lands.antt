@@ -1,5 +1,5 @@
 -- A standing tree with its leaves relaid stands again.
-use Rattle.std.proofs.Common.{◌≡◌, ℕ, suc, ◌+◌, ◌*◌, ◌<◌, ◌≤◌, Bool, cond, List, [], ◌∷◌, ◌++◌, length, get_or, take, drop, Some, None, Ok, Err, Option, sym, refl, ap, ◌∙◌, subst, ⊎_elim, arith}
+use Rattle.std.proofs.Common.{◌≡◌, ℕ, suc, ◌+◌, ◌*◌, ◌<◌, ◌≤◌, Bool, List, ◌++◌, length, get_or, take, drop, Some, None, Ok, Err, Option, sym, refl, ap, ◌∙◌, subst, ⊎_elim, arith}
 use borrow.Rule.Slice.PartMut.{put_mid}
 use Rattle.std.proofs.lemmas.List.{length-append, length-take-le, length-drop, take_at, drop_at, drop-drop, get_or_append_left, get_or-take}
 use Rattle.std.proofs.lemmas.Bool.{cases_lt}
@@ -11,7 +11,6 @@ use Rattle.ordered.specs.Slots.{pairs, Packed, first_key}
 use Rattle.tree_layout.specs.Levels.{starts, leaves, leaf_slots, tree_slots, area, leaf_of}
 use Rattle.tree_layout.proofs.Levels.{tree_parts}
 use Rattle.tree_index.specs.Index.{index_key, Names, RuleAt}
-use Rattle.ordered.specs.Slots as index
 use Rattle.tree_index.specs.Refreshing.{Ready, Refreshed}
 use Rattle.tree_index.specs.Standing.{Stands}
 use Rattle.tree_index.proofs.Keys.{area_long, rest_same}
@@ -22,11 +21,6 @@ use Rattle.tree_changes.specs.Changed.{StandsWith}
 use Rattle.tree_changes.proofs.Relaying.{Relaid}
 
 module _ {K R : Type 0} where
-  -- the first key of the index slots is that of the leaves
-  pub same_first : (ss : List (Slot K R)) → index.first_key ss ≡ first_key ss
-  same_first [] = refl
-  same_first (s ∷ ss) = ap (cond s.filled (Some s.key)) (same_first ss)
-
   -- the slots of the leaves are packed and in order
   pub leafed : {b : K → K → Bool} (m h : ℕ) (xs : List (Slot K R)) → Stands b m h xs → Leafed b m (leaves m h) (area m h xs)
   leafed m h xs st = record { long = area_long m h xs st.fits; packed = st.packed; ascending = st.ascending }
@@ -68,7 +62,7 @@ module _ {K R : Type 0} where
     area_mid = area_new m h xs zs st.fits lz base size eb es
 
     key_mid : (q : ℕ) → first_key (drop (q * m) zs) ≡ first_key (drop (q * m) (area m h xs)) → index_key m h mid q ≡ index_key m h xs q
-    key_mid q e = ap (λ (us : List (Slot K R)). index.first_key (drop (q * m) us)) area_mid ∙ same_first (drop (q * m) zs) ∙ e ∙ sym (same_first (drop (q * m) (area m h xs)))
+    key_mid q e = ap (λ (us : List (Slot K R)). first_key (drop (q * m) us)) area_mid ∙ e
 
     -- an index slot of a leaf outside the span still follows its rule
     rule_mid : (q : ℕ) → (low < q → q ≤ high → ⊥) → RuleAt m h mid q

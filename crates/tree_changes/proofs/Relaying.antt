@@ -4,10 +4,11 @@ use Rattle.std.proofs.lemmas.List.{length-append}
 use Rattle.ordered.specs.declared.slot.Slot.{Slot}
 use Rattle.ordered.specs.Meaning.{Ascending}
 use Rattle.ordered.specs.Slots.{pairs, Packed, first_key}
-use Rattle.slot_rows.proofs.Held.{head_of}
+use Rattle.ordered.proofs.Walks.{head_of}
+use Rattle.ordered.proofs.Slots.{pairs_append, key_of, first_key_lem}
 use Rattle.tree_layout.specs.Levels.{leaf_at}
 use Rattle.leaf_rows.specs.Leaves.{Leafed}
-use Rattle.leaf_rows.proofs.Blocks.{leaf_before, leaf_inside, leaf_after, drop_after, drop_before, pairs_append, key_of, first_key_lem}
+use Rattle.leaf_rows.proofs.Blocks.{leaf_before, leaf_inside, leaf_after, drop_after, drop_before}
 use Rattle.leaf_rows.proofs.Landing.{head_behind, pick}
 
 -- The leaves ys changed into zs: they are packed and in order, and the first key from a leaf on is another only for leaves

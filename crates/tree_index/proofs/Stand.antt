@@ -109,7 +109,7 @@ pub record Climb (m h p q from : ℕ) : Type 0 where
   pub pos : 0 < q
   pub below : q < (m + 1) ^ suc j
 
-pos_of_mul : (n k : ℕ) → 0 < n * k → 0 < n
+pub pos_of_mul : (n k : ℕ) → 0 < n * k → 0 < n
 pos_of_mul zero k l = absurd (omega (arith, zero-mul k))
 pos_of_mul (suc n) k l = omega arith
 
@@ -135,7 +135,7 @@ start_at m base p (suc j) pm l e u =
 pub climb_start : (y : Layout) (p : ℕ) → 0 < p → p < y.leaves → (1 ≤ y.base / y.width) × Climb y.width y.height p p ((y.base / y.width - 1) / (y.width + 1))
 climb_start y p l u = start_at y.width y.base p y.height y.narrowest l y.above (subst (λ n. p < n) y.many u)
 
-module _ (m h p q from : ℕ) (pm : 2 ≤ m) (z : q % (m + 1) ≡ 0) (c : Climb m h p q from) where
+module _ {m h p q from : ℕ} (c : Climb m h p q from) (pm : 2 ≤ m) (z : q % (m + 1) ≡ 0) where
   whole : q / (m + 1) * (m + 1) ≡ q
   whole = omega (arith, div-add-mod' q (m + 1), z)
 
@@ -164,7 +164,7 @@ module _ (m h p q from : ℕ) (pm : 2 ≤ m) (z : q % (m + 1) ≡ 0) (c : Climb 
         below = lt_of_mul-lt-mul_right (m + 1) (rw (whole, ← (pow-suc (m + 1) (suc j))) be);
       }
 
-module _ (m h p q from : ℕ) (pm : 2 ≤ m) (ne : q % (m + 1) ≢ 0) (c : Climb m h p q from) where
+module _ {m h p q from : ℕ} (c : Climb m h p q from) (pm : 2 ≤ m) (ne : q % (m + 1) ≢ 0) where
   rest : q % (m + 1) < m + 1
   rest = mod_below q (m + 1) (omega arith)
 

@@ -17,9 +17,8 @@ pub fn index_key<K: Key, R: Copy>(slots: &[Slot<K, R>], layout: Layout, leaf: us
     if slots.len() < layout.slots() || leaf == 0 || leaf >= layout.leaves {
         return None;
     }
-    let at = index_slot(layout, leaf);
-    let slot = slots[at];
-    if slot.filled { Some(slot.key) } else { None }
+    let slot = slots[index_slot(layout, leaf)];
+    slot.filled.then_some(slot.key)
 }
 
 // Lets a slot name a key; its value stays, since no answer depends on it.
@@ -27,21 +26,17 @@ fn name_key<K: Copy, R: Copy>(slots: &mut [Slot<K, R>], at: usize, key: Option<K
     requires { at < length slots.old }
     ensures { (s : Place K R) × (slots.new ≡ slice_set slots.old at s) × Names s key }
 {
-    let mut slot = slots[at];
-    match key {
-        Some(k) => {
-            slot.filled = true;
-            slot.key = k;
-        }
-        None => {
-            slot.filled = false;
-        }
-    }
-    slots[at] = slot;
+    let slot = slots[at];
+    slots[at] = Slot {
+        filled: key.is_some(),
+        key: key.unwrap_or(slot.key),
+        ..slot
+    };
 }
 
 // Sets the index slots of the leaves after `low` up to `high`, from the last to the first, carrying the first key
 // found so far: before them that is `found`, the first key past leaf `high`.
+#[tactic(auto, using(crate::proofs::Keys::head_within))]
 pub fn refresh<K: Key, R: Copy>(
     slots: &mut [Slot<K, R>],
     layout: Layout,
@@ -56,15 +51,11 @@ pub fn refresh<K: Key, R: Copy>(
         return;
     }
     let mut next = found;
-    let mut leaf = high;
-    while low < leaf {
-        let head = slots[layout.base + leaf * layout.width];
+    for before in (low..high).rev() {
+        let leaf = before + 1;
         // The filled slots of a leaf come first.
-        if head.filled {
-            next = Some(head.key);
-        }
-        let at = index_slot(layout, leaf);
-        name_key(slots, at, next);
-        leaf -= 1;
+        let head = slots[layout.base + leaf * layout.width];
+        next = head.filled.then_some(head.key).or(next);
+        name_key(slots, index_slot(layout, leaf), next);
     }
 }

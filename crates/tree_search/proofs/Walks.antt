@@ -1,23 +1,21 @@
 -- The way down from the root to the target leaf.
-use Rattle.std.proofs.Common.{◌≡◌, ℕ, zero, suc, ◌+◌, ◌-◌, ◌*◌, ◌^◌, ◌<◌, ◌≤◌, Bool, true, false, cond, not, ◌&&◌, List, [], ◌∷◌, length, get_or, take, drop, Some, None, Option, sym, refl, ap, ◌∙◌, subst, ⊎_elim, le_trans, mul-le-mul_right, mul-le-mul_left, pow-suc, zero-mul, add-one, arith, length-drop, length-take}
+use Rattle.std.proofs.Common.{◌≡◌, ℕ, zero, suc, ◌+◌, ◌-◌, ◌*◌, ◌^◌, ◌<◌, ◌≤◌, Bool, true, false, cond, not, ◌&&◌, List, [], ◌∷◌, length, get_or, take, drop, Some, None, Option, sym, refl, ap, ◌∙◌, subst, ⊎_elim, mul-le-mul_right, mul-le-mul_left, pow-suc, add-one, arith, length-drop, length-take}
 use native.Mathlib.Nat.{pow-zero}
-use Rattle.std.proofs.lemmas.Bool.{both_ways, not-true, false≢true, cases_lt}
-use Rattle.std.proofs.lemmas.List.{drop-drop, get_or-take, get_or-drop}
+use Rattle.std.proofs.lemmas.Bool.{both_ways, not-true, false≢true, cases_lt, false_from_ne_true}
+use Rattle.std.proofs.lemmas.List.{drop-drop, take-append-drop, get_or-take, get_or-drop}
 use Rattle.ordered.specs.declared.slot.Slot.{Slot}
 use Rattle.ordered.specs.Meaning.{After, Ascending}
 use Rattle.ordered.specs.Slots.{keep, pairs, first_key}
+use Rattle.ordered.proofs.Joins.{ascending_parts}
+use Rattle.ordered.proofs.Slots.{pairs_append}
 use Rattle.slot_rows.specs.declared.halving.Bound.TheVariants.{Upper}
 use Rattle.slot_rows.specs.Ranks.{below, lead, Fails, Falling}
 use Rattle.tree_layout.specs.Levels.{starts, tree_slots, area}
 use Rattle.tree_layout.proofs.Levels.{starts_pow, starts_up}
 use Rattle.tree_index.specs.Index.{index_key, place, Names}
 use Rattle.tree_index.specs.Standing.{Stands, not_after, Target}
-use Rattle.tree_index.proofs.Stand.{node_below, child_below}
+use Rattle.tree_index.proofs.Stand.{node_below, child_below, pos_of_mul}
 use Rattle.tree_index.proofs.Keys.{index_past}
-
-pub not_both : (t : Bool) → (t ≡ true → ⊥) → t ≡ false
-not_both true h = absurd (h refl)
-not_both false h = refl
 
 -- the elements before the rank pass the test, and the one at the rank does not
 module _ {X : Type 0} (f : X → Bool) where
@@ -45,7 +43,7 @@ module _ {X : Type 0} (f : X → Bool) where
   falling_each : (xs : List X) → ((i j : ℕ) (d : X) → i ≤ j → j < length xs → f (get_or xs j d) ≡ true → f (get_or xs i d) ≡ true) → Falling f xs
   falling_each [] n = tt
   falling_each (x ∷ xs) n = (
-    (λ e. fails_each xs (λ j d l. not_both _ (λ t. both_ways (f x) e (n 0 (suc j) d (omega arith) (omega arith) t)))),
+    (λ e. fails_each xs (λ j d l. false_from_ne_true _ (λ t. both_ways (f x) e (n 0 (suc j) d (omega arith) (omega arith) t)))),
     falling_each xs (λ i j d le l t. n (suc i) (suc j) d (omega arith) (omega arith) t),
   )
 
@@ -60,7 +58,7 @@ module _ {K R : Type 0} (b : K → K → Bool) (transitive : (x y z : K) → b x
   first_not_after k (suc n) [] a p = absurd (false≢true p)
   first_not_after k zero (s ∷ ss) a p =
       (elim s.filled as (λ t. After b k (keep t (s.key, s.value) (pairs ss)) → not_after b key (cond t (Some s.key) (first_key ss)) ≡ true → b key k ≡ false)
-      [ true ↦ λ a p. not_both _ (λ e. both_ways _ (not-true _ p) (transitive key k s.key e a.0)) | false ↦ λ a p. first_not_after k zero ss a p ])
+      [ true ↦ λ a p. false_from_ne_true _ (λ e. both_ways _ (not-true _ p) (transitive key k s.key e a.0)) | false ↦ λ a p. first_not_after k zero ss a p ])
       a p
   first_not_after k (suc n) (s ∷ ss) a p =
       (elim s.filled as (λ t. After b k (keep t (s.key, s.value) (pairs ss)) → b key k ≡ false) [ true ↦ λ a. first_not_after k n ss a.1 p | false ↦ λ a. first_not_after k n ss a p ]) a
@@ -74,10 +72,7 @@ module _ {K R : Type 0} (b : K → K → Bool) (transitive : (x y z : K) → b x
       so
 
   pub ascending_drop : (n : ℕ) (ss : List (Slot K R)) → Ascending b (pairs ss) → Ascending b (pairs (drop n ss))
-  ascending_drop zero ss so = so
-  ascending_drop (suc n) [] so = so
-  ascending_drop (suc n) (s ∷ ss) so =
-      ascending_drop n ss ((elim s.filled as (λ t. Ascending b (keep t (s.key, s.value) (pairs ss)) → Ascending b (pairs ss)) [ true ↦ λ so. so.1 | false ↦ λ so. so ]) so)
+  ascending_drop n ss so = (ascending_parts b (pairs (take n ss)) (pairs (drop n ss)) (subst (Ascending b) (ap pairs (sym (take-append-drop n ss)) ∙ pairs_append (take n ss) (drop n ss)) so)).1
 
   -- if the index key of a leaf is not after the key, neither is that of an earlier leaf
   pub not_after_mono : (m h : ℕ) (xs : List (Slot K R)) (p q : ℕ) → p ≤ q → Ascending b (pairs (area m h xs)) → not_after b key (index_key m h xs q) ≡ true → not_after b key (index_key m h xs p) ≡ true
@@ -90,10 +85,6 @@ module _ {K R : Type 0} (b : K → K → Bool) (transitive : (x y z : K) → b x
 some_of : {X : Type 0} (xs : List X) → 0 < length xs → X
 some_of [] l = absurd (omega arith)
 some_of (x ∷ xs) l = x
-
-pos_of : (n k : ℕ) → 0 < n * k + 0 → 0 < n
-pos_of zero k l = absurd (omega (arith, zero-mul k))
-pos_of (suc n) k l = omega arith
 
 -- The target leaf is below node n, whose leaves are (m + 1) ^ w.
 pub record Reach {K R : Type 0} (b : K → K → Bool) (m h : ℕ) (xs : List (Slot K R)) (key : K) (w n : ℕ) : Type 0 where
@@ -132,11 +123,11 @@ module _ {K R : Type 0} (b : K → K → Bool) (transitive : (x y z : K) → b x
         d = some_of xs (omega (arith, st.fits, node_below m h j n (suc w) e ln))
 
         lows : (c : ℕ) → c ≤ m → c ≤ lead (below Upper b key) (take m (drop ((starts m j + n) * m) xs)) → 0 < n * (m + 1) + c → not_after b key (index_key m h xs ((n * (m + 1) + c) * (m + 1) ^ w)) ≡ true
-        lows zero lc u l = subst (λ p. not_after b key (index_key m h xs p) ≡ true) (rw pow-suc (omega arith)) (r.low (pos_of n (m + 1) l))
+        lows zero lc u l = subst (λ p. not_after b key (index_key m h xs p) ≡ true) (rw pow-suc (omega arith)) (r.low (pos_of_mul n (m + 1) (omega (arith, l))))
         lows (suc i) lc u l = sym (tells i d lc) ∙ lead_passes (below Upper b key) _ i d u
 
         up : (q : ℕ) → c < m → (n * (m + 1) + c + 1) * (m + 1) ^ w ≤ q → not_after b key (index_key m h xs q) ≡ false
-        up q lt l = not_both _ (λ p. both_ways _ stop (not_after_mono b transitive key m h xs ((n * (m + 1) + suc c) * (m + 1) ^ w) q (omega arith) st.ascending p))
+        up q lt l = false_from_ne_true _ (λ p. both_ways _ stop (not_after_mono b transitive key m h xs ((n * (m + 1) + suc c) * (m + 1) ^ w) q (omega arith) st.ascending p))
           where
             stop : not_after b key (index_key m h xs ((n * (m + 1) + suc c) * (m + 1) ^ w)) ≡ false
             stop = sym (tells c d lt) ∙ ap (λ i. below Upper b key (get_or (take m (drop ((starts m j + n) * m) xs)) i d)) is ∙ lead_stops (below Upper b key) (take m (drop ((starts m j + n) * m) xs)) d (omega (arith, is, node_long))
@@ -178,41 +169,33 @@ module _ {K R : Type 0} (b : K → K → Bool) (transitive : (x y z : K) → b x
       few : c ≤ m
       few = omega (arith, lc, ap length there, length-take m (drop ((starts m j + n) * m) xs))
 
-  pub walked_leaf : (j from n : ℕ) → h ≤ j → Walked b m h xs key j from n → (n < (m + 1) ^ h) × (Stands b m h xs → Target b m h xs key n)
-  walked_leaf j from n l w =
-      let e : j ≡ h = omega (arith, w.deep) in
-      let in_row : n < (m + 1) ^ h = subst (λ x. n < (m + 1) ^ x) e w.within in (
-        in_row,
-        λ st. let r = w.reach zero (omega arith) st in
-            record {
-              within = in_row;
-              low = λ l. subst (λ p. not_after b key (index_key m h xs p) ≡ true) (rw pow-zero (omega arith)) (r.low l);
-              high = λ q l. r.high q (rw pow-zero (omega arith));
-            },
-      )
-
-pub rank_few : {X : Type 0} (n m c : ℕ) (xs : List X) → c ≤ length (take ((n + m) - n) xs) → c ≤ m
-rank_few n m c xs l = omega (arith, length-take ((n + m) - n) xs)
+-- at the leaves it has reached the target leaf
+pub walked_leaf : {K R : Type 0} {b : K → K → Bool} {m h : ℕ} {xs : List (Slot K R)} {key : K} {j from n : ℕ} → Walked b m h xs key j from n → h ≤ j → Stands b m h xs → Target b m h xs key n
+walked_leaf {K} {R} {b} {m} {h} {xs} {key} {j} {from} {n} w l st =
+    let e : j ≡ h = omega (arith, w.deep) in
+    let r = w.reach zero (omega arith) st in
+    record {
+      within = subst (λ x. n < (m + 1) ^ x) e w.within;
+      low = λ l. subst (λ p. not_after b key (index_key m h xs p) ≡ true) (rw pow-zero (omega arith)) (r.low l);
+      high = λ q l. r.high q (rw pow-zero (omega arith));
+    }
 
 -- the slots of a node on the way, and the numbers of the next
-module _ (m h j n from size : ℕ) (ef : from ≡ starts m j) (l : n < (m + 1) ^ j) (lh : j < h) (pm : 2 ≤ m) (fit : tree_slots m h ≤ size) where
-  pub node_fits : (from + n) * m + m ≤ size
-  node_fits = rw ef (le_trans (node_below m h j n (h - j) (omega arith) l) fit)
+module _ {K R : Type 0} {b : K → K → Bool} {m h : ℕ} {xs : List (Slot K R)} {key : K} {j from n : ℕ} (w : Walked b m h xs key j from n) (pm : 2 ≤ m) (lh : j < h) where
+  one : 1 ≤ m
+  one = omega arith
 
-  pub node_small : from + n ≤ size
-  node_small = omega (arith, node_fits, mul-le-mul_left (from + n) one)
-    where
-      one : 1 ≤ m
-      one = omega arith
+  node_fits : (from + n) * m + m ≤ tree_slots m h
+  node_fits = rw w.start (node_below m h j n (h - j) (omega arith) w.within)
 
   up : starts m (suc j) ≤ starts m (suc h)
   up = starts_up m (suc j) (h - j) (suc h) (omega arith)
 
-  pub next_small : from * (m + 1) + 1 ≤ size
-  next_small = rw ef (omega (arith, mul-le-mul_left (starts m (suc j)) one, mul-le-mul_right m up))
-    where
-      one : 1 ≤ m
-      one = omega arith
+  next_fits : from * (m + 1) + 1 ≤ tree_slots m h
+  next_fits = rw w.start (omega (arith, mul-le-mul_left (starts m (suc j)) one, mul-le-mul_right m up))
 
-  pub child_small : (c : ℕ) → c ≤ m → n * (m + 1) + c ≤ size
-  child_small c lc = omega (arith, child_below m j n c l lc, starts_pow m (suc j), mul-le-mul_right m up)
+  child_fits : n * (m + 1) + m ≤ tree_slots m h
+  child_fits = omega (arith, child_below m j n m w.within (omega arith), starts_pow m (suc j), mul-le-mul_right m up)
+
+  pub walked_small : ((from + n) * m + m ≤ tree_slots m h) × (from + n ≤ tree_slots m h) × (from * (m + 1) + 1 ≤ tree_slots m h) × (n * (m + 1) + m ≤ tree_slots m h)
+  walked_small = (node_fits, omega (arith, node_fits, mul-le-mul_left (from + n) one), next_fits, child_fits)

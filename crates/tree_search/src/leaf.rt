@@ -9,6 +9,7 @@ use slot_rows::{Bound, rank, search};
 use tree_layout::Layout;
 
 // The slots of a leaf; none past the last leaf, and none if the tree does not stand in the slots.
+#[tactic(auto, using(tree_index::proofs::Keys::leaf_within))]
 pub fn leaf_slots<'a, K: Copy, R: Copy>(
     slots: &'a [Slot<K, R>],
     layout: Layout,
@@ -18,7 +19,7 @@ pub fn leaf_slots<'a, K: Copy, R: Copy>(
     ensures none { length slots.now < tree_slots layout.width layout.height → result.now ≡ [] }
 {
     if slots.len() < layout.slots() || leaf >= layout.leaves {
-        return &slots[0..0];
+        return &[];
     }
     let from = layout.base + leaf * layout.width;
     &slots[from..from + layout.width]
@@ -28,24 +29,14 @@ pub fn leaf_slots<'a, K: Copy, R: Copy>(
 pub(crate) fn value_in<K: Key, R: Copy>(leaf: &[Slot<K, R>], key: K) -> Option<R>
     ensures { Packed leaf.now → Ascending K.Key.before (pairs leaf.now) → result ≡ lookup K.Key.before (pairs leaf.now) key }
 {
-    match search(leaf, key) {
-        Ok(at) => Some(leaf[at].value),
-        Err(_) => None,
-    }
+    let at = search(leaf, key).ok()?;
+    Some(leaf[at].value)
 }
 
 // The first pair of a leaf that is not below a key.
 pub(crate) fn first_in<K: Key, R: Copy>(leaf: &[Slot<K, R>], key: K, bound: Bound) -> Option<(K, R)>
     ensures { Packed leaf.now → Ascending K.Key.before (pairs leaf.now) → result ≡ first (λ q. not (key_below bound K.Key.before key q)) (pairs leaf.now) }
 {
-    let at = rank(leaf, key, bound);
-    if at >= leaf.len() {
-        return None;
-    }
-    let slot = leaf[at];
-    if slot.filled {
-        Some((slot.key, slot.value))
-    } else {
-        None
-    }
+    let slot = leaf.get(rank(leaf, key, bound))?;
+    slot.filled.then_some((slot.key, slot.value))
 }

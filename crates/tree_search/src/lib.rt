@@ -2,11 +2,9 @@
 #![tactic(auto)]
 
 mod descent;
-mod laws;
 mod leaf;
 mod seek;
 
 pub use descent::target_leaf;
-pub use laws::one_leaf;
 pub use leaf::leaf_slots;
 pub use seek::{find, first_from};

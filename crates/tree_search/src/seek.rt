@@ -40,8 +40,6 @@ pub fn first_from<K: Key, R: Copy>(
     ensures { Stands K.Key.before layout.width layout.height slots.now → result ≡ first (λ q. not (key_below bound K.Key.before key q)) (tree_row layout.width layout.height slots.now) }
 {
     let target = target_leaf(slots, layout, key);
-    match first_in(leaf_slots(slots, layout, target), key, bound) {
-        Some(pair) => Some(pair),
-        None => first_past(slots, layout, target),
-    }
+    let leaf = leaf_slots(slots, layout, target);
+    first_in(leaf, key, bound).or_else(|| first_past(slots, layout, target))
 }

@@ -1,6 +1,5 @@
 use Rattle.std.proofs.Common.{length, refl, arith}
 use borrow.Author.Rules.{scaled_Fits}
-use Rattle.ordered.proofs.Rows.{order}
 use Rattle.leaf_rows.proofs.Settled.{leaves_are, leaf_fits, next_fits, put_there, put_full, put_up, put_down}
 use Rattle.leaf_rows.proofs.placing.put.Goals as goal
 

@@ -1,6 +1,5 @@
 use Rattle.std.proofs.Common.{refl}
 use Rattle.std.proofs.lemmas.Result.{err_from_is_err_and}
-use Rattle.ordered.proofs.Rows.{order}
 use Rattle.tree_changes.proofs.Landings.{puts_in, placed_ok, placed_err}
 use Rattle.tree_changes.proofs.placing.put_pair.Goals as goal
 

@@ -1,5 +1,4 @@
 use Rattle.std.proofs.lemmas.Result.{err_from_is_err_and}
-use Rattle.ordered.proofs.Rows.{order}
 use Rattle.tree_changes.proofs.Edits.{leaf_packed, leaf_ascends, leaf_refused, taken_inside, taken_first}
 use Rattle.tree_changes.proofs.removing.take_pair.Goals as goal
 

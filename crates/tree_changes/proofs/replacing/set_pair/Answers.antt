@@ -1,4 +1,3 @@
-use Rattle.ordered.proofs.Rows.{order}
 use Rattle.tree_changes.proofs.Edits.{leaf_packed, leaf_ascends, leaf_changed}
 use Rattle.tree_changes.proofs.replacing.set_pair.Goals as goal
 

@@ -1,4 +1,3 @@
-use Rattle.ordered.proofs.Rows.{order}
 use Rattle.tree_search.proofs.Splits.{find_in}
 use Rattle.tree_search.proofs.seek.find.Goals as goal
 
