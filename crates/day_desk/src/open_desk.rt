@@ -7,6 +7,7 @@ use logs::{Body, Call, Log, Place, Rest, Size, Species, Tag};
 use ordered::OrderedIndex;
 use yard_desk::{Desk, Refusal, Reply};
 
+// A page of fixed length, since the project allows no heap.
 // The page of a LIST line.
 const PAGE: usize = 100;
 
@@ -31,7 +32,7 @@ pub struct OpenDesk<T: OrderedIndex<Tag, Rest>, S: OrderedIndex<Size, u8>> {
     page: [Log; PAGE],
 }
 
-// The tag that the call names; CALL and LIST name none, and answer with logs.
+// The tag that the call names. CALL and LIST name none, and answer with logs, so that nobody meets their 0.
 fn tag_of(call: Call) -> u32
     ensures { result ≡ tag_of call }
 {

@@ -3,6 +3,7 @@ ghost use Rattle.line_input.specs.Lines.{up_to_end, after_end, kept};
 
 const KEPT: usize = 201;
 
+// An array and a length, and no `ArrayVec`, since callers may copy the buffer.
 // The first bytes of a line that is not at its end yet.
 #[derive(Clone, Copy)]
 pub struct LineBuffer {

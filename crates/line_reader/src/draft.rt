@@ -49,6 +49,7 @@ impl Draft {
         ensures { result ≡ fitted self }
     {
         let tag = check(Limits::TAG, self.tag, 1)?;
+        // Within its limits each number fits the smaller type.
         let diameter = check(Limits::DIAMETER, self.diameter, 3)? as u16;
         let length = check(Limits::LENGTH, self.length, 4)? as u16;
         let bay = check(Limits::BAY, self.bay, 5)? as u8;

@@ -42,6 +42,7 @@ fn read_sizes(line: &Fields, third: Limits) -> Result<(Species, u16, u16), Refus
     let species = line.letter(1)?;
     let d = line.number(2)?;
     let e = line.number(3)?;
+    // Within its limits each number fits the smaller type.
     let diameter = check(Limits::DIAMETER, d, 2)? as u16;
     let other = check(third, e, 3)? as u16;
     Ok((species, diameter, other))

@@ -16,6 +16,7 @@ impl<T: OrderedIndex<Tag, Rest>, S: OrderedIndex<Size, u8>> Yard<T, S> {
         ensures { S.OrderedIndex.kept self.now.sizes → LimitsOf (S.OrderedIndex.row self.now.sizes) → FirstFit (S.OrderedIndex.row self.now.sizes) species diameter length result }
     {
         let mut d = diameter;
+        // No index is counted: the next diameter is that of the log that was found.
         while d <= THICKEST {
             let from = Size {
                 species,

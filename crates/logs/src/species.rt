@@ -18,6 +18,7 @@ impl Species {
         self as u8
     }
 
+    // Named methods and no `From`: a byte stands for a code or for a letter.
     pub fn letter(self) -> u8
         ensures { result ≡ letter_of self }
     {

@@ -11,6 +11,7 @@ use ordered::{Fault, Key, MOST_SLOTS, OrderedIndex, Slot};
 use slot_edits::{remove, replace};
 use slot_rows::{Bound, blank, push_up, rank, search};
 
+// The caller lends the slots, since the project allows no heap; so the count stands beside them.
 #[derive(Drop)]
 pub struct StraightRow<'a, K: Key, R: Copy> {
     slots: &'a mut [Slot<K, R>],

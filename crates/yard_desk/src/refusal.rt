@@ -15,6 +15,7 @@ pub enum Refusal {
     Yard(log_yard::Refusal),
 }
 
+// The conversions are written out, since contracts name what `?` makes of an error.
 impl From<Refused> for Refusal {
     ghost from_gives = { λ e r. r ≡ Line e };
 
@@ -40,6 +41,7 @@ impl From<log_yard::Refusal> for Refusal {
 }
 
 impl Refusal {
+    // A match, since variants with a value have no number of their own.
     pub fn number(self) -> u8
         ensures { result ≡ refusal_number self }
     {
