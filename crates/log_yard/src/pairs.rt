@@ -5,11 +5,19 @@ ghost use Rattle.log_yard.specs.Walk.{pairs_left, pairs_steps, from_key};
 
 use ordered::{Key, OrderedIndex};
 
-// The pairs of an index from a key on, in the order of their keys.
+// Where a walk stands: before the pairs from a key on, or after the pair that it gave last.
+#[derive(Clone, Copy)]
+pub(crate) enum Ahead<K, R> {
+    From(K),
+    After(K, R),
+}
+
+// The pairs of an index from a key on, in the order of their keys. Each is searched for when it is asked for, so that a walk
+// that stops makes no search in vain.
 #[derive(Drop)]
 pub(crate) struct Pairs<'a, T, K, R> {
     index: &'a T,
-    next: Option<(K, R)>,
+    ahead: Ahead<K, R>,
     // As many as the index counts: so the walk ends over slots that break its rules, too.
     left: usize,
 }
@@ -22,7 +30,7 @@ impl<'a, T: OrderedIndex<K, R>, K: Key, R: Copy> Pairs<'a, T, K, R> {
     {
         Pairs {
             index,
-            next: index.at_or_above(key),
+            ahead: Ahead::From(key),
             left: index.count(),
         }
     }
@@ -37,8 +45,11 @@ impl<'a, T: OrderedIndex<K, R>, K: Key, R: Copy> Iterator for Pairs<'a, T, K, R>
 
     fn next(&mut self) -> Option<(K, R)> {
         self.left = self.left.checked_sub(1)?;
-        let pair = self.next?;
-        self.next = self.index.above(pair.0);
-        Some(pair)
+        let (key, value) = match self.ahead {
+            Ahead::From(key) => self.index.at_or_above(key)?,
+            Ahead::After(last, _) => self.index.above(last)?,
+        };
+        self.ahead = Ahead::After(key, value);
+        Some((key, value))
     }
 }
