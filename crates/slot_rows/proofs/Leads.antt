@@ -1,5 +1,9 @@
 -- How many elements of a list pass a test, where those that pass come first.
-use Rattle.std.proofs.Common.{◌≡◌, ℕ, zero, suc, ◌<◌, ◌≤◌, Bool, true, false, cond, List, [], ◌∷◌, length, get_or, sym, ap, ◌∙◌, ⊎_elim, arith}
+use Rattle.std.proofs.Common.{◌≡◌, ℕ, zero, suc, ◌<◌, ◌≤◌, ◌+◌, Bool, true, false, cond, not, List, [], ◌∷◌, length, get_or, Option, position, sym, refl, ap, ◌∙◌, ⊎_elim, arith}
+use Rattle.std.specs.List.{position_or_len}
+use Rattle.std.specs.Option.{unwrap_or}
+use Rattle.std.proofs.lemmas.Bool.Decides.{nat_tests}
+use Rattle.std.proofs.lemmas.List.Sums.{prefix_len-le-length}
 use Rattle.std.proofs.lemmas.Bool.{both_ways, cases_Bool}
 use Rattle.std.specs.List.Sorted.{IsPartitionPoint, IsPartitionedBy}
 use Rattle.slot_rows.specs.Ranks.{lead, Fails, Falling}
@@ -23,3 +27,13 @@ module _ {X : Type 0} (f : X → Bool) where
   lead_point (x ∷ xs) (suc n) le p =
       ap suc (lead_point xs n (omega (arith, le)) (λ i d l m. p.0 (suc i) d (omega arith) (omega (arith, m)), λ i d l m. p.1 (suc i) d (omega (arith, l)) (omega (arith, m))))
       ∙ sym (ap (λ t. cond t (suc (lead f xs)) 0) (p.0 0 x (omega arith) (omega arith)))
+
+  passing : (xs : List X) → position_or_len (λ x. not (f x)) xs ≡ lead f xs
+  passing [] = refl
+  passing (x ∷ xs) = elim (f x) as (λ t. cond (not (not t)) (1 + position_or_len (λ y. not (f y)) xs) 0 ≡ cond t (suc (lead f xs)) 0) [ true ↦ omega (arith, passing xs) | false ↦ refl ]
+
+  -- the first that does not pass, or the end
+  pub lead_position : (xs : List X) (o : Option ℕ) (n : ℕ) → o ≡ position (λ x. not (f x)) xs → n ≡ unwrap_or o (length xs) → n ≡ lead f xs
+  lead_position xs o n e u =
+      let m : n ≡ position_or_len (λ x. not (f x)) xs = grind (arith, nat_tests, prefix_len-le-length) in
+      m ∙ passing xs

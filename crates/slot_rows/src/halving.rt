@@ -1,4 +1,4 @@
-ghost use Rattle.std.specs.Prelude.{◌≡◌, ℕ, ◌<◌, ◌≤◌, length, MatchResult};
+ghost use Rattle.std.specs.Prelude.{◌≡◌, ℕ, ◌<◌, ◌≤◌, length, not, position, MatchResult};
 ghost use Rattle.slot_rows.specs.declared.halving.Bound.TheVariants.{Lower};
 ghost use Rattle.slot_rows.specs.Ranks.{below, lead, located, Falling};
 
@@ -24,11 +24,24 @@ fn is_below<K: Key, R: Copy>(slot: &Slot<K, R>, key: &K, bound: Bound) -> bool
         }
 }
 
+// The first slot that is not below the key.
+fn first_not_below<K: Key, R: Copy>(slots: &[Slot<K, R>], key: K, bound: Bound) -> Option<usize>
+    ensures { result ≡ position (λ s. not (below bound K.Key.before key s)) slots.now }
+{
+    slots.iter().position(|slot| !is_below(slot, &key, bound))
+}
+
+// Up to so many slots, as in a node, are looked at one after another: that is faster than halving them.
+const FEW: usize = 16;
+
 // How many slots are below the key, where those that are come first.
 pub fn rank<K: Key, R: Copy>(slots: &[Slot<K, R>], key: K, bound: Bound) -> usize
     ensures within { result ≤ length slots.now }
     ensures gives { Falling (below bound K.Key.before key) slots.now → result ≡ lead (below bound K.Key.before key) slots.now }
 {
+    if slots.len() <= FEW {
+        return first_not_below(slots, key, bound).unwrap_or(slots.len());
+    }
     slots.partition_point(|slot| is_below(slot, &key, bound))
 }
 
