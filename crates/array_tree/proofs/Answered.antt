@@ -1,5 +1,5 @@
 -- What a standing tree answers, from what its slots say.
-use Rattle.std.proofs.Common.{◌≡◌, ℕ, suc, ◌<◌, ◌≤◌, Bool, true, false, not, List, [], ◌∷◌, length, Some, None, Option, sym, ap, ◌∙◌, subst, arith}
+use Rattle.std.proofs.Common.{◌≡◌, ℕ, suc, ◌<◌, ◌≤◌, Bool, true, false, not, List, [], ◌∷◌, length, Some, None, Option, sym, subst, arith}
 use Rattle.std.proofs.Math.Bool.{not-not}
 use Rattle.ordered.specs.declared.slot.Slot.{Slot}
 use Rattle.ordered.specs.Meaning.{Orderly, first, above}
@@ -8,31 +8,30 @@ use Rattle.ordered.specs.Slots.{countable, keep, pairs}
 use Rattle.ordered.proofs.Rows.{first_same}
 use Rattle.tree_layout.specs.declared.layout.Layout.{Layout}
 use Rattle.tree_layout.specs.Levels.{area}
-use Rattle.tree_layout.specs.Rows.{Laid, LayoutOf}
+use Rattle.tree_layout.specs.Rows.{Laid}
 use Rattle.tree_index.specs.Standing.{tree_row, Stands}
 use Rattle.tree_index.proofs.Keys.{area_long}
 use Rattle.array_tree.specs.declared.standing_tree.ArrayTree.{ArrayTree}
-use Rattle.array_tree.specs.Filling.{capacity_of}
 use Rattle.array_tree.specs.Standing.{height_of, leaves_in, room_for, Standing, Keeps, row_in, room_in}
-use Rattle.array_tree.proofs.Heights.{height_is, room_at}
+use Rattle.array_tree.proofs.Heights.{height_is}
 
 pairs_few : {K R : Type 0} (ss : List (Slot K R)) → length (pairs ss) ≤ length ss
 pairs_few [] = omega arith
 pairs_few (s ∷ ss) = elim s.filled as (λ t. length (keep t (s.key, s.value) (pairs ss)) ≤ suc (length ss)) [ true ↦ omega (arith, pairs_few ss) | false ↦ omega (arith, pairs_few ss) ]
 
-pub orderly : {K R : Type 0} (b : K → K → Bool) (m : ℕ) (height : Option ℕ) (xs : List (Slot K R)) (n : ℕ) → Standing b m height xs n → Orderly b (room_for m height) (pairs (leaves_in m height xs))
-orderly b m None xs n s = record { ascending = tt; within = omega arith }
-orderly b m (Some h) xs n s = record { ascending = s.stands.ascending; within = omega (arith, pairs_few (area m h xs), area_long m h xs s.stands.fits) }
+pub orderly : {K R : Type 0} (b : K → K → Bool) (m : ℕ) (height : Option ℕ) (xs : List (Slot K R)) (r n : ℕ) → Standing b m height xs r n → Orderly b (room_for m height) (pairs (leaves_in m height xs))
+orderly b m None xs r n s = record { ascending = tt; within = omega arith }
+orderly b m (Some h) xs r n s = record { ascending = s.stands.ascending; within = omega (arith, pairs_few (area m h xs), area_long m h xs s.stands.fits) }
 
 module _ {K R : Type 0} (b : K → K → Bool) (m : ℕ) (t : ArrayTree K R) {X : Type 0} (ask : List (K × R) → X) (r : X) where
   abbrev xs : List (Slot K R)
   xs = t.slots.now
 
   pub answers : (Keeps b m t → r ≡ ask (row_in m t)) → Answers (row_in m) (room_in m) (Keeps b m) b t r (ask (row_in m t))
-  answers g = record { gives = g; orderly = orderly b m (height_of m t) xs t.count }
+  answers g = record { gives = g; orderly = orderly b m (height_of m t) xs t.room t.count }
 
-  answers_at : (height : Option ℕ) → height_of m t ≡ height → (Standing b m height xs t.count → r ≡ ask (pairs (leaves_in m height xs))) → Answers (row_in m) (room_in m) (Keeps b m) b t r (ask (row_in m t))
-  answers_at height e f = answers (subst (λ (a : Option ℕ). Standing b m a xs t.count → r ≡ ask (pairs (leaves_in m a xs))) (sym e) f)
+  answers_at : (height : Option ℕ) → height_of m t ≡ height → (Standing b m height xs t.room t.count → r ≡ ask (pairs (leaves_in m height xs))) → Answers (row_in m) (room_in m) (Keeps b m) b t r (ask (row_in m t))
+  answers_at height e f = answers (subst (λ (a : Option ℕ). Standing b m a xs t.room t.count → r ≡ ask (pairs (leaves_in m a xs))) (sym e) f)
 
   pub answers_some : (p : Layout) → Laid m (countable (length xs)) p → (Stands b p.width p.height xs → r ≡ ask (tree_row p.width p.height xs)) → Answers (row_in m) (room_in m) (Keeps b m) b t r (ask (row_in m t))
   answers_some p laid f =
@@ -46,9 +45,5 @@ module _ {K R : Type 0} (b : K → K → Bool) (m : ℕ) (t : ArrayTree K R) {X 
 pub above_is : {K R : Type 0} (b : K → K → Bool) (row : List (K × R)) (k : K) → first (λ q. not (not (b k q))) row ≡ above b row k
 above_is b row k = first_same b (λ q. not (not (b k q))) (λ q. b k q) row (λ q. not-not (b k q))
 
--- its capacity is that of the layout that its slots have
-pub capacity_is : {K R : Type 0} (b : K → K → Bool) (m : ℕ) (t : ArrayTree K R) (r : ℕ) (o : Option Layout) → LayoutOf m (countable (length t.slots.now)) o → r ≡ capacity_of o → Answers (row_in m) (room_in m) (Keeps b m) b t r (room_in m t)
-capacity_is b m t r o laid e = record {
-  gives = λ k. e ∙ sym (ap (room_for m) (height_is m (countable (length t.slots.now)) o laid) ∙ room_at m (countable (length t.slots.now)) o laid);
-  orderly = orderly b m (height_of m t) t.slots.now t.count;
-}
+pub capacity_is : {K R : Type 0} (b : K → K → Bool) (m : ℕ) (t : ArrayTree K R) → Answers (row_in m) (room_in m) (Keeps b m) b t t.room (room_in m t)
+capacity_is b m t = record { gives = λ k. k.roomy; orderly = orderly b m (height_of m t) t.slots.now t.room t.count }

@@ -35,19 +35,19 @@ module _ {K R : Type 0} (b : K → K → Bool) (m : ℕ) (t : ArrayTree K R) (p 
   row = tree_row m h xs
 
   abbrev turned : ℕ → ArrayTree K R
-  turned j = record { slots = set_vals ys t.slots; count = j }
+  turned j = record { slots = set_vals ys t.slots; room = t.room; count = j }
 
   abbrev Whole : {X : Type 0} → Result X Fault → ℕ → Type 0
   Whole r j = Changes (row_in m) (room_in m) (Keeps b m) b t (due (room_in m t) (row_in m t)) (new (row_in m t)) r (turned j) × (Keeps b m t → Does (height_of m t) (does m) xs r ys)
 
   -- a whole change, told by the height before and after
   record At {X : Type 0} (r : Result X Fault) (j : ℕ) (a a' : Option ℕ) : Type 0 where
-    outcome : Standing b m a xs t.count → Outcome (due (room_for m a) (pairs (leaves_in m a xs))) r
-    after : Standing b m a xs t.count → pairs (leaves_in m a' ys) ≡ settled r (new (pairs (leaves_in m a xs))) (pairs (leaves_in m a xs))
-    unmoved : Standing b m a xs t.count → Unmoved r t (turned j)
+    outcome : Standing b m a xs t.room t.count → Outcome (due (room_for m a) (pairs (leaves_in m a xs))) r
+    after : Standing b m a xs t.room t.count → pairs (leaves_in m a' ys) ≡ settled r (new (pairs (leaves_in m a xs))) (pairs (leaves_in m a xs))
+    unmoved : Standing b m a xs t.room t.count → Unmoved r t (turned j)
     capacity : room_for m a' ≡ room_for m a
-    stays : Standing b m a xs t.count → Standing b m a' ys j
-    slots : Standing b m a xs t.count → Does a (does m) xs r ys
+    stays : Standing b m a xs t.room t.count → Standing b m a' ys t.room j
+    slots : Standing b m a xs t.room t.count → Does a (does m) xs r ys
 
   old_height : height_of m t ≡ Some h
   old_height = height_is m (countable (length xs)) (Some p) laid
@@ -62,7 +62,7 @@ module _ {K R : Type 0} (b : K → K → Bool) (m : ℕ) (t : ArrayTree K R) (p 
           unmoved = at.unmoved;
           capacity = at.capacity;
           stays = at.stays;
-          orderly = orderly b m (height_of m t) xs t.count;
+          orderly = orderly b m (height_of m t) xs t.room t.count;
         },
         at.slots,
       )
@@ -70,7 +70,7 @@ module _ {K R : Type 0} (b : K → K → Bool) (m : ℕ) (t : ArrayTree K R) (p 
   abbrev Given : Result (Unit {0}) Fault → ℕ → Type 0
   Given r w = Stands b w h xs → Changed (due (leaf_slots w h) (tree_row w h xs)) (does w h) xs r ys
 
-  pub whole_ok : (j : ℕ) → Given (Ok tt) p.width → (does m h ys → StandsWith b m h xs (new row) ys) → (Standing b m (Some h) xs t.count → Outcome {X = Unit {0}} (due (leaf_slots m h) row) (Ok tt) → j ≡ length (new row)) → Whole {X = Unit {0}} (Ok tt) j
+  pub whole_ok : (j : ℕ) → Given (Ok tt) p.width → (does m h ys → StandsWith b m h xs (new row) ys) → (Standing b m (Some h) xs t.room t.count → Outcome {X = Unit {0}} (due (leaf_slots m h) row) (Ok tt) → j ≡ length (new row)) → Whole {X = Unit {0}} (Ok tt) j
   whole_ok j given tree counts =
       let w = subst (Given (Ok tt)) laid.wide given in
       whole (Ok tt) j (record {
@@ -78,7 +78,7 @@ module _ {K R : Type 0} (b : K → K → Bool) (m : ℕ) (t : ArrayTree K R) (p 
         after = λ s. (tree (w s.stands).after).row_is;
         unmoved = λ s. tt;
         capacity = refl;
-        stays = λ s. let c = w s.stands in record { stands = (tree c.after).stands; counted = counts s c.outcome ∙ ap length (sym (tree c.after).row_is) };
+        stays = λ s. let c = w s.stands in record { roomy = s.roomy; stands = (tree c.after).stands; counted = counts s c.outcome ∙ ap length (sym (tree c.after).row_is) };
         slots = λ s. (w s.stands).after;
       })
 
@@ -88,9 +88,9 @@ module _ {K R : Type 0} (b : K → K → Bool) (m : ℕ) (t : ArrayTree K R) (p 
       whole (Err f) t.count (record {
         outcome = λ s. (w s.stands).outcome;
         after = λ s. ap (tree_row m h) (w s.stands).after;
-        unmoved = λ s. ap (λ (zs : List (Slot K R)). record { slots = set_vals zs t.slots; count = t.count }) (w s.stands).after;
+        unmoved = λ s. ap (λ (zs : List (Slot K R)). record { slots = set_vals zs t.slots; room = t.room; count = t.count }) (w s.stands).after;
         capacity = refl;
-        stays = λ s. subst (λ (zs : List (Slot K R)). Standing b m (Some h) zs t.count) (sym (w s.stands).after) s;
+        stays = λ s. subst (λ (zs : List (Slot K R)). Standing b m (Some h) zs t.room t.count) (sym (w s.stands).after) s;
         slots = λ s. (w s.stands).after;
       })
 
@@ -99,9 +99,9 @@ module _ {K R : Type 0} (b : K → K → Bool) (m : ℕ) (t : ArrayTree K R) (p 
   whole_same (Err f) w tree e = whole_err f w
 
 -- how many pairs there are after a change
-module _ {K R : Type 0} {b : K → K → Bool} (o : Order b) (m h : ℕ) (xs : List (Slot K R)) (n : ℕ) (s : Standing b m (Some h) xs n) (k : K) where
+module _ {K R : Type 0} {b : K → K → Bool} (o : Order b) (m h : ℕ) (xs : List (Slot K R)) (r n : ℕ) (s : Standing b m (Some h) xs r n) (k : K) where
   pub one_more : tree_slots m h ≤ 1048575 → (v : R) (j : ℕ) → j ≡ min (n + 1) (2 ^ 64 - 1) → j ≡ length (inserted b (tree_row m h xs) k v)
-  one_more small v j e = omega (arith, e, s.counted, length_inserted b (tree_row m h xs) k v, (orderly b m (Some h) xs n s).within, tree_parts m h, small)
+  one_more small v j e = omega (arith, e, s.counted, length_inserted b (tree_row m h xs) k v, (orderly b m (Some h) xs r n s).within, tree_parts m h, small)
 
   pub one_less : (j : ℕ) → j ≡ n - 1 → Outcome {X = Unit {0}} (absent_refusal b (tree_row m h xs) k) (Ok tt) → j ≡ length (removed b (tree_row m h xs) k)
   one_less j e d =

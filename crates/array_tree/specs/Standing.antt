@@ -38,12 +38,13 @@ StandsIn b m None xs = Unit {0}
 StandsIn b m (Some h) xs = Stands b m h xs
 
 -- what a standing tree with m keys to a node keeps
-pub record Standing {K R : Type 0} (b : K → K → Bool) (m : ℕ) (height : Option ℕ) (xs : List (Slot K R)) (count : ℕ) : Type 0 where
+pub record Standing {K R : Type 0} (b : K → K → Bool) (m : ℕ) (height : Option ℕ) (xs : List (Slot K R)) (room count : ℕ) : Type 0 where
+  pub roomy : room ≡ room_for m height
   pub stands : StandsIn b m height xs
   pub counted : count ≡ length (pairs (leaves_in m height xs))
 
 abbrev pub Keeps : {K R : Type 0} → (K → K → Bool) → ℕ → ArrayTree K R → Type 0
-Keeps b m t = Standing b m (height_of m t) t.slots.now t.count
+Keeps b m t = Standing b m (height_of m t) t.slots.now t.room t.count
 
 abbrev pub row_in : {K R : Type 0} → ℕ → ArrayTree K R → List (K × R)
 row_in m t = pairs (leaves_in m (height_of m t) t.slots.now)

@@ -9,6 +9,7 @@ impl<'a, K: Key, R: Copy> FillingTree<'a, K, R> {
     pub fn close(self) -> ArrayTree<'a, K, R>
         ensures { Closed self.entry result }
     {
+        let room = self.capacity();
         let FillingTree {
             slots,
             layout,
@@ -17,6 +18,6 @@ impl<'a, K: Key, R: Copy> FillingTree<'a, K, R> {
         if let Some(of) = layout {
             refresh(slots, of, 0, of.leaves - 1, None);
         }
-        ArrayTree { slots, count }
+        ArrayTree { slots, room, count }
     }
 }

@@ -33,7 +33,7 @@ impl<'a, K: Key, R: Copy> OrderedIndex<K, R> for ArrayTree<'a, K, R> {
     }
 
     fn capacity(&self) -> usize {
-        self.layout().map_or(0, Layout::capacity)
+        self.room
     }
 
     fn get(&self, key: K) -> Option<R> {

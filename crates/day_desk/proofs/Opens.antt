@@ -26,7 +26,7 @@ module _ (d : OpeningDesk) (x : ArrayTree Tag Rest) (z : ArrayTree Size ℕ) (ta
   roomy = omega (arith, tags.room, sizes.room, d.roomy)
 
   within : length (row_in 15 x) ≤ room_in 15 x
-  within = (orderly tag_before 15 (height_of 15 x) x.slots.now x.count tags.keeps).within
+  within = (orderly tag_before 15 (height_of 15 x) x.slots.now x.room x.count tags.keeps).within
 
   pub never_refused : (n : ℕ) → OpenDue tag_tree size_tree x z n → ⊥
   never_refused n = ⊎_elim

@@ -12,10 +12,10 @@ pub returns : goal.returns
 returns g c =
     let old = c.args.self in
     let ys = c.match-layout.slots in
-    elim c.match-layout.branch [
+    rw c.capacity-room.ensures (elim c.match-layout.branch [
       | in-Some w ↦
           let p = w.in-Some.of in
           closed_some old ys c.match-layout.auto.slots p w.in-Some.is
           (subst (λ (zs : List _). Refreshed p.width p.height old.slots.now zs 0 (p.leaves - 1) None) (sym w.slots-is) w.refresh.ensures)
       | in_default w ↦ closed_none old ys c.match-layout.auto.slots w.in_default.is w.slots-is
-    ]
+    ])

@@ -2,7 +2,6 @@ use Rattle.std.proofs.Common.{ℕ, sym, arith, subst}
 use Rattle.std.proofs.lemmas.Result.{err_from_is_err_and}
 use Rattle.ordered.specs.Changes.{put_refusal}
 use Rattle.ordered.specs.Meaning.{inserted}
-use Rattle.ordered.proofs.Rows.{order}
 use Rattle.tree_changes.specs.Changed.{Landed}
 use Rattle.tree_layout.specs.Rows.{LayoutOf}
 use Rattle.array_tree.proofs.Wholes.{whole_ok, whole_err, one_more}
@@ -26,5 +25,5 @@ returns g c =
     let w = whole_ok b g.K.Key.WIDTH c.args.self.now c.in_ok-layout.layout laid c.put_pair.new.slots c.put_pair.auto.slots
     (λ room row. put_refusal b room row c.args.key) (λ row. inserted b row c.args.key c.args.value) (λ (w h : ℕ) ys. Landed b w h c.args.self.now.slots.now c.args.key c.args.value ys)
     c.saturating_add-self.result (c.in_ok-put_pair.ensures.changes (sym laid.wide)) (λ d. d.tree)
-    (λ s _. one_more o g.K.Key.WIDTH c.in_ok-layout.layout.height c.args.self.now.slots.now c.args.self.now.count s c.args.key (omega (arith, laid.fits)) c.args.value c.saturating_add-self.result c.saturating_add-self.ensures) in
+    (λ s _. one_more o g.K.Key.WIDTH c.in_ok-layout.layout.height c.args.self.now.slots.now c.args.self.now.room c.args.self.now.count s c.args.key (omega (arith, laid.fits)) c.args.value c.saturating_add-self.result c.saturating_add-self.ensures) in
     record { meaning = w.0; slots = w.1 }
