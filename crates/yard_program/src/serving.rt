@@ -1,4 +1,4 @@
-use crate::input::next_line;
+use crate::input::{Ending, next_line};
 use day_desk::{OpeningDesk, SIZE_SLOTS, TAG_SLOTS};
 use line_input::LineBuffer;
 use line_writer::ROW;
@@ -34,24 +34,35 @@ const SIZE_SLOT: Slot<Size, u8> = Slot {
     value: 0,
 };
 
+// What follows a last line without its end byte: an input such as a terminal may go on after its end.
+#[derive(Clone, Copy, PartialEq, Eq)]
+enum LastLine {
+    Ends,
+    ReadsOn,
+}
+
 // Answers the lines of the input until one opens the yard, and tells whether one did.
 fn serve_lines<D: Desk, R: Read, W: Write>(
     desk: &mut D,
+    last: LastLine,
     input: &mut BufReader<R>,
     output: &mut W,
 ) -> io::Result<bool> {
     let mut row = [0u8; ROW];
     let mut line = LineBuffer::new();
     for _ in 0..u64::MAX {
-        if !next_line(&mut line, input, output)? {
+        let Some(ending) = next_line(&mut line, input, output)? else {
             break;
-        }
+        };
         let Ok(answered) = desk.answer(line.line(), &mut row) else {
             unreachable!();
         };
         output.write_all(&row[..answered.length])?;
         if answered.opens() {
             return Ok(true);
+        }
+        if ending == Ending::Input && last == LastLine::Ends {
+            break;
         }
     }
     output.flush()?;
@@ -63,8 +74,8 @@ pub fn serve<R: Read, W: Write>(input: &mut BufReader<R>, output: &mut W) -> io:
     let mut tag_slots = [TAG_SLOT; TAG_SLOTS];
     let mut size_slots = [SIZE_SLOT; SIZE_SLOTS];
     let mut desk = OpeningDesk::over(&mut tag_slots, &mut size_slots);
-    if serve_lines(&mut desk, input, output)? {
-        serve_lines(&mut desk.open(), input, output)?;
+    if serve_lines(&mut desk, LastLine::ReadsOn, input, output)? {
+        serve_lines(&mut desk.open(), LastLine::ReadsOn, input, output)?;
     }
     Ok(())
 }
@@ -72,6 +83,11 @@ pub fn serve<R: Read, W: Write>(input: &mut BufReader<R>, output: &mut W) -> io:
 // Answers every line of the input by a desk that loads logs and opens no yard.
 pub fn load<R: Read, W: Write>(input: &mut BufReader<R>, output: &mut W) -> io::Result<()> {
     let mut slots = [TAG_SLOT; TAG_SLOTS];
-    serve_lines(&mut LoadingDesk::over(&mut slots), input, output)?;
+    serve_lines(
+        &mut LoadingDesk::over(&mut slots),
+        LastLine::Ends,
+        input,
+        output,
+    )?;
     Ok(())
 }
